@@ -1,0 +1,3 @@
+-- Faults and their numbers, and fields. Assumes nothing.
+pub mod Faults
+pub mod Fields

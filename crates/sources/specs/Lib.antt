@@ -1,0 +1,2 @@
+-- The models that ladders and unions stand for. Assumes nothing.
+pub mod Kinds
