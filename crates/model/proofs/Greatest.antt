@@ -1,6 +1,6 @@
 -- The greatest number of a list. Assumes nothing.
 use mathlib.Core.List.{List, [], map, _∷_}
-use Prim.Native.Nat.{max, ℕ, _≤_}
+use Prim.Native.Nat.{ℕ, _≤_}
 use native.Mathlib.Omega.{arith}
 use Rattle.std.specs.shelf.Lists.{All}
 use Rattle.std.proofs.shelf.Elements.{all-weaker}

@@ -1,5 +1,5 @@
 -- A test of every element, what holds of every element, and what holds at any place. Assumes nothing.
-use mathlib.Core.Bool.{Bool, true, _&&_}
+use mathlib.Core.Bool.{Bool, true}
 use mathlib.Core.List.{List, [], _∷_}
 use mathlib.Core.Path.{refl, _≡_}
 use Prim.Native.Nat.{suc, zero, ℕ}

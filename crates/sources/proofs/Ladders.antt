@@ -13,12 +13,12 @@ use Rattle.std.proofs.shelf.Elements.{all-map, all-push, all-weaker}
 use Rattle.std.proofs.shelf.Lists.{getD-past, length-push}
 use Rattle.std.proofs.shelf.Tests.{and-from, cases-bool, cases-lt, cond-above, cond-below, cond-both, cond-false, cond-true, le-leb, ne-eqb}
 use Rattle.std.proofs.shelf.Ways.{tells}
-use Rattle.model.specs.Model.{Model, Step, branch-at, count, no-branch, no-step, step-at, steps-of, void}
-use Rattle.model.proofs.Laws.{Lawful, Lawful-step}
+use Rattle.model.specs.Model.{Model, Step, branch-at, count, no-branch, no-step, step-at, steps-of, total, void}
+use Rattle.model.specs.declared.Branch.{Branch}
+use Rattle.model.proofs.Elements.{all-counting, getD-push-default}
+use Rattle.model.proofs.Laws.{Lawful, Lawful-row, Lawful-step, row-among-more, void-is-lawful}
 use Rattle.sources.specs.declared.ladder.Ladder.{Ladder}
 use Rattle.sources.specs.Kinds.{ladder-fits, ladder-of, rung}
-use Rattle.sources.proofs.Elements.{all-counting, getD-push-default}
-use Rattle.sources.proofs.Laws.{Lawful-row, row-among-more, void-is-lawful}
 
 -- of a row of one step or none
 getD-one-or-none : (t : Bool) (a : Step) (i : ℕ) → getD (cond t (a ∷ []) []) i no-step ≡ cond (t && eqb i 0) a no-step
@@ -61,31 +61,51 @@ module _ (l : Ladder) where
         | inr e ↦ rw e
       ]
 
-  -- by what `has` answers of a state and a step
-  module _ (s i : ℕ) {r : Bool} (e : r ≡ (fits && ltb (s + 1) n && eqb i 0)) where
-    pub step-by-has : cond r (step s) no-step ≡ step-at (ladder-of l) s i
-    step-by-has =
-        ap (λ b. cond b (step s) no-step) e
-        ∙ sym (ap (λ row. getD row i no-step) (ladder-steps s) ∙ getD-one-or-none (fits && ltb (s + 1) n) (step s) i)
+  -- what `has` answers of a state and a step
+  abbrev has : ℕ → ℕ → Bool
+  has s i = fits && ltb (s + 1) n && eqb i 0
 
-    pub branch-by-has : (j k : ℕ) → j ≡ k → getD (cond r (step s) no-step .branches) k no-branch ≡ branch-at (ladder-of l) s i j
-    branch-by-has j k same =
-        ap (λ m. getD (cond r (step s) no-step .branches) m no-branch) (sym same) ∙ ap (λ a. getD (a .branches) j no-branch) step-by-has
+  step-by-has : (s i : ℕ) (r : Bool) → r ≡ has s i → step-at (ladder-of l) s i ≡ cond r (step s) no-step
+  step-by-has s i r e =
+      ap (λ row. getD row i no-step) (ladder-steps s) ∙ getD-one-or-none (fits && ltb (s + 1) n) (step s) i ∙ ap (λ b. cond b (step s) no-step) (sym e)
 
-    pub no-third-branch : (j : ℕ) → 2 ≤ j → no-branch ≡ branch-at (ladder-of l) s i j
-    no-third-branch j h =
-        cond-both r (step s) no-step (λ a. no-branch ≡ getD (a .branches) j no-branch)
-        (λ _. sym (getD-past (step s .branches) j no-branch (omega arith))) (λ _. refl) ∙ branch-by-has j j refl
+  pub answer-by-has : (ask : Step → ℕ) (s i : ℕ) (r : Bool) → r ≡ has s i → ask (step-at (ladder-of l) s i) ≡ ask (cond r (step s) no-step)
+  answer-by-has ask s i r e = ap ask (step-by-has s i r e)
 
-  pub steps-by-has : (s : ℕ) {r : Bool} → r ≡ (fits && ltb (s + 1) n && eqb 0 0) → cond r 1 0 ≡ length (steps-of (ladder-of l) s)
-  steps-by-has s e =
-      ap (λ b. cond b 1 0) e ∙ sym (ap length (ladder-steps s) ∙ length-one-or-none (fits && ltb (s + 1) n) (step s))
+  -- of branch j, where it is k
+  pub branch-by-has : (ask : Branch → ℕ) (r : Bool) (k s i j : ℕ) → r ≡ has s i → j ≡ k
+      → ask (branch-at (ladder-of l) s i j) ≡ ask (getD (cond r (step s) no-step .branches) k no-branch)
+  branch-by-has ask r k s i j e same =
+      ap (λ m. ask (branch-at (ladder-of l) s i m)) same ∙ answer-by-has (λ a. ask (getD (a .branches) k no-branch)) s i r e
+
+  pub no-third-branch : (ask : Branch → ℕ) (s i j : ℕ) → 2 ≤ j → ask (branch-at (ladder-of l) s i j) ≡ ask no-branch
+  no-third-branch ask s i j h =
+      branch-by-has ask (has s i) j s i j refl refl
+      ∙ cond-both (has s i) (step s) no-step (λ a. ask (getD (a .branches) j no-branch) ≡ ask no-branch)
+      (λ _. ap ask (getD-past (step s .branches) j no-branch (omega arith))) (λ _. refl)
+
+  pub steps-by-has : (s : ℕ) (r : Bool) → r ≡ has s 0 → length (steps-of (ladder-of l) s) ≡ cond r 1 0
+  steps-by-has s r e =
+      ap length (ladder-steps s) ∙ length-one-or-none (fits && ltb (s + 1) n) (step s) ∙ ap (λ b. cond b 1 0) (sym e)
 
   length-rows : 1 ≤ n → length (rungs ++ [] ∷ []) ≡ n
   length-rows h = omega (arith, length-push rungs [], length-rungs)
 
-  pub count-by-fits : fits ≡ true → n ≡ count (ladder-of l)
-  count-by-fits e = let h : 1 ≤ n = grind (arith, tells) in rw e (sym (length-rows h))
+  pub count-by-fits : (r : Bool) → r ≡ fits → count (ladder-of l) ≡ cond r n 0
+  count-by-fits true e = let h : 1 ≤ n = grind (arith, tells) in rw (← e) (length-rows h)
+  count-by-fits false e = rw (← e)
+
+  -- the two measures are those of the first state
+  pub most-steps-is : ladder-of l .p ≡ length (steps-of (ladder-of l) 0)
+  most-steps-is = let e = steps-by-has 0 (has 0 0) refl in grind (arith, tells)
+
+  pub most-total-is : ladder-of l .z ≡ total (step-at (ladder-of l) 0 0)
+  most-total-is =
+      let rows = answer-by-has total 0 0 (has 0 0) refl in
+      elim (cases-bool (has 0 0)) [
+        | inl e ↦ let sum = rw e at rows in grind (arith, tells)
+        | inr e ↦ let none = rw e at rows in grind (arith, tells)
+      ]
 
   abbrev whole : Model
   whole = record { states = rungs ++ [] ∷ []; p = cond (eqb n 1) 0 1; z = cond (eqb n 1) 0 (l .ok + l .miss) }
@@ -120,7 +140,7 @@ module _ (l : Ladder) where
         totals = grind (arith, tells);
         void = inl (omega arith);
         rows = all-push _ rungs [] (all-map _ (λ i. step i ∷ []) (counting 0 (n - 1))
-        (all-weaker _ _ (λ i h. row-is-lawful e i (omega arith)) (counting 0 (n - 1)) (all-counting 0 (n - 1)))) (omega arith, tt);
+            (all-weaker _ _ (λ i h. row-is-lawful e i (omega arith)) (counting 0 (n - 1)) (all-counting 0 (n - 1)))) (omega arith, tt);
       }
 
   pub ladder-is-lawful : Lawful (ladder-of l)

@@ -11,9 +11,8 @@ use Rattle.std.proofs.shelf.Lists.{length-append, length-map}
 use Rattle.std.proofs.shelf.Tests.{cases-bool, cond-false, cond-true}
 use Rattle.std.proofs.shelf.Ways.{tells}
 use Rattle.model.specs.Model.{Model, Step, count, void}
-use Rattle.model.proofs.Laws.{Lawful}
+use Rattle.model.proofs.Laws.{Lawful, row-among-more, void-is-lawful}
 use Rattle.sources.specs.Kinds.{moved, union, union-void}
-use Rattle.sources.proofs.Laws.{row-among-more, void-is-lawful}
 use Rattle.sources.proofs.Moved.{row-moved}
 
 module _ (a b : Model) where
@@ -43,10 +42,10 @@ module _ (a b : Model) where
         totals = omega (arith, la .totals, lb .totals);
         void = inl (omega arith);
         rows = all-append _ (a .states) _
-        (all-weaker _ _ (λ row r. row-among-more na (count both) (a .p) (both .p) (a .z) (both .z) row (omega arith) (omega arith) (omega arith) r)
-        (a .states) (la .rows))
-        (all-map _ (map (moved na)) (b .states) (all-weaker _ _ (λ row r. row-among-more (na + nb) (count both) (b .p) (both .p) (b .z) (both .z)
-        (map (moved na) row) (omega arith) (omega arith) (omega arith) (row-moved na nb (b .p) (b .z) row r)) (b .states) (lb .rows)));
+            (all-weaker _ _ (λ row r. row-among-more na (count both) (a .p) (both .p) (a .z) (both .z) row (omega arith) (omega arith) (omega arith) r)
+            (a .states) (la .rows))
+            (all-map _ (map (moved na)) (b .states) (all-weaker _ _ (λ row r. row-among-more (na + nb) (count both) (b .p) (both .p) (b .z) (both .z)
+            (map (moved na) row) (omega arith) (omega arith) (omega arith) (row-moved na nb (b .p) (b .z) row r)) (b .states) (lb .rows)));
       }
 
   pub union-is-lawful : Lawful a → Lawful b → Lawful (union a b)

@@ -14,7 +14,7 @@ pub struct Union<A, B> {
 
 /// Where a state of a union lies, by its number there.
 #[derive(Clone, Copy)]
-pub enum Side {
+enum Side {
     Nowhere,
     Left(usize),
     Right(usize),

@@ -33,7 +33,11 @@ impl Ladder {
         ensures { λ r. ⌜ r ≡ ladder-fits (now (self .entry) .states) (now (self .entry) .action) (now (self .entry) .ok) (now (self .entry) .miss) ⌝ }
     {
         let sized = 1 <= self.states && self.states <= 64 && self.action < 32;
-        sized && 1 <= self.ok && 1 <= self.miss && self.ok <= 30_000 && self.miss <= 30_000 - self.ok
+        sized
+            && 1 <= self.ok
+            && 1 <= self.miss
+            && self.ok <= 30_000
+            && self.miss <= 30_000 - self.ok
     }
 
     /// Whether the state has this step: a ladder's states have step 0 alone, and the last has none.
@@ -52,11 +56,11 @@ pub impl Source for Ladder as LadderSource {
     }
 
     fn most_steps(&self) -> usize {
-        if self.has(0, 0) { 1 } else { 0 }
+        self.steps(0)
     }
 
     fn most_total(&self) -> u32 {
-        if self.has(0, 0) { self.ok + self.miss } else { 0 }
+        self.total(0, 0)
     }
 
     fn steps(&self, state: usize) -> usize {
@@ -64,11 +68,19 @@ pub impl Source for Ladder as LadderSource {
     }
 
     fn action(&self, state: usize, step: usize) -> u8 {
-        if self.has(state, step) { self.action } else { 0 }
+        if self.has(state, step) {
+            self.action
+        } else {
+            0
+        }
     }
 
     fn total(&self, state: usize, step: usize) -> u32 {
-        if self.has(state, step) { self.ok + self.miss } else { 0 }
+        if self.has(state, step) {
+            self.ok + self.miss
+        } else {
+            0
+        }
     }
 
     fn branches(&self, state: usize, step: usize) -> usize {
@@ -76,7 +88,11 @@ pub impl Source for Ladder as LadderSource {
     }
 
     fn target(&self, state: usize, step: usize, branch: usize) -> usize {
-        if self.has(state, step) && branch == 1 { state + 1 } else { 0 }
+        if self.has(state, step) && branch == 1 {
+            state + 1
+        } else {
+            0
+        }
     }
 
     fn weight(&self, state: usize, step: usize, branch: usize) -> u32 {

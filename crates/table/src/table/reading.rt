@@ -17,11 +17,14 @@ use fields::field::read_field;
 
 /// The most states of a model, and the number of actions.
 const STATES: u8 = 64;
+
 const ACTIONS: u8 = 32;
 
 /// The most steps of a state, and the most steps and branches of a file.
 const ROW_STEPS: usize = 16;
+
 const FILE_STEPS: usize = 256;
+
 const FILE_BRANCHES: usize = 1024;
 
 /// The largest total of a step.

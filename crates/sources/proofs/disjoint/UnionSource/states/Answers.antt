@@ -4,6 +4,4 @@ use Rattle.sources.proofs.Sides.{count-by-side}
 use Rattle.sources.proofs.disjoint.UnionSource.states.Needs as need
 
 pub returns-in-rest : need.returns-in-rest
-returns-in-rest g c =
-    omega (arith, count-by-side (g .A·Source .meaning (c .args .self .now .left)) (g .B·Source .meaning (c .args .self .now .right)) 0
-    (c .locate .ensures) (c .in-rest .not-Nowhere))
+returns-in-rest g c = omega (arith, count-by-side (c .in-rest .not-Nowhere))

@@ -1,10 +1,10 @@
 -- What the step that `has` speaks of has for an action. Assumes nothing.
-use mathlib.Core.Path.{ap}
-use Rattle.sources.proofs.Ladders.{step-by-has}
+use native.Mathlib.Omega.{arith}
+use Rattle.sources.proofs.Ladders.{answer-by-has}
 use Rattle.sources.proofs.ladder.LadderSource.action.Needs as need
 
 pub returns-then-has : need.returns-then-has
-returns-then-has c = ap (λ a. a .action) (step-by-has (c .args .self .now) (c .args .state) (c .args .step) (c .if-has .ensures tt))
+returns-then-has c = let has = c .if-has .ensures tt in omega (arith, answer-by-has (c .args .self .now) (λ a. a .action))
 
 pub returns-else-has : need.returns-else-has
-returns-else-has c = ap (λ a. a .action) (step-by-has (c .args .self .now) (c .args .state) (c .args .step) (c .if-has .ensures tt))
+returns-else-has c = let has = c .if-has .ensures tt in omega (arith, answer-by-has (c .args .self .now) (λ a. a .action))

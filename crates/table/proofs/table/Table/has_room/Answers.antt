@@ -1,5 +1,5 @@
 -- Assumes nothing.
-use mathlib.Core.Path.{sym, _∙_, _≡_}
+use mathlib.Core.Path.{sym, _≡_}
 use Prim.Native.Nat.{ℕ, _+_, _-_, _≤_}
 use native.Mathlib.Omega.{arith}
 use lib.Dec.{leb}
@@ -30,6 +30,7 @@ pub returns : need.returns
 returns c =
     let t : Table = c .args .self .now in
     let s : ℕ = c .args .state in
-    moved-over (t .used) (branches-in (states-of t)) (c .args .count) (holds t .low) (t .«branches_counted»)
-    ∙ sym (branch-room-decides (states-of t) s (c .args .count)
-    (omega (arith, steps-counted t s (c .pre), c .if-self-state-ge-ROW-STEPS .left)) (omega (arith, t .«steps_counted», c .if-self-ge-FILE-STEPS .left)))
+    let moved = moved-over (t .used) (branches-in (states-of t)) (c .args .count) (holds t .low) (t .«branches_counted») in
+    let decided = branch-room-decides (states-of t) s (c .args .count)
+    (omega (arith, steps-counted t s (c .pre), c .if-self-state-ge-ROW-STEPS .left)) (omega (arith, t .«steps_counted», c .if-self-ge-FILE-STEPS .left)) in
+    cc (moved, decided)

@@ -37,7 +37,7 @@ loop-rest-again c =
     let field = c .in-Continue-field .ensures tt .answer in
     let turn = turn-taken (states-of (c .loop-rest .self)) (c .loop-rest .at) (c .loop-rest .rest .now) _ field _ (c .in-Continue-add .ensures tt) in
     let w = field-whole (states-of (c .loop-rest .self)) (c .loop-rest .at) (c .loop-rest .rest .now) _ field in
-    (sym turn ∙ c .loop-rest .inv .0, omega (arith, w, c .loop-rest .inv .1))
+    (cc (turn, c .loop-rest .inv .0), omega (arith, w, c .loop-rest .inv .1))
 
 pub returns : need.returns
 returns c =

@@ -9,11 +9,6 @@ use Rattle.std.specs.shelf.Lists.{All}
 use Rattle.std.proofs.shelf.Elements.{all-weaker}
 
 module _ {X : Type 0} where
-  pub all-at : (P : X → Type 0) (xs : List X) (i : ℕ) (d : X) → All P xs → P d → P (getD xs i d)
-  all-at P [] i d h k = k
-  all-at P (x ∷ xs) zero d h k = h .0
-  all-at P (x ∷ xs) (suc i) d h k = all-at P xs i d (h .1) k
-
   pub getD-push-default : (xs : List X) (i : ℕ) (d : X) → getD (xs ++ d ∷ []) i d ≡ getD xs i d
   getD-push-default [] zero d = refl
   getD-push-default [] (suc i) d = refl
