@@ -1,7 +1,6 @@
 -- Where the next field of a file begins. Assumes nothing.
 use mathlib.Core.Bool.{Bool, cond, false, true}
 use mathlib.Core.List.{List, [], _∷_}
-use mathlib.Core.Logic.{inl, inr}
 use mathlib.Core.Path.{ap, refl, sym, _∙_, _≡_}
 use Prim.Native.Nat.{suc, zero, ℕ, _*_, _+_, _≤_}
 use native.Mathlib.Nat.{add-zero}
@@ -11,7 +10,7 @@ use lib.ListN.{drop, length, take}
 use Rattle.std.specs.declared.result.Result.{Result}
 use Rattle.std.specs.declared.result.Result.the-variants.{Err, Ok}
 use Rattle.std.proofs.shelf.Lists.{length-drop, length-take-le}
-use Rattle.std.proofs.shelf.Tests.{cases-bool, leb-true}
+use Rattle.std.proofs.shelf.Tests.{leb-true}
 use Rattle.fields.specs.declared.fault.FieldFault.{FieldFault}
 use Rattle.fields.specs.Fields.{Read, field-of, starts}
 

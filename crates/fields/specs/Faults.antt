@@ -1,6 +1,5 @@
 -- The number and the place of each fault of a file. Assumes nothing.
 use Prim.Native.Nat.{ℕ}
-use Rattle.fields.specs.declared.fault.FieldFault.{FieldFault}
 use Rattle.fields.specs.declared.fault.FileFault.{FileFault}
 use Rattle.fields.specs.declared.fault.FileFault.the-variants.{Field, Limit, Number}
 use Rattle.fields.specs.declared.fault.Flaw.{Flaw}

@@ -11,7 +11,7 @@ use Rattle.std.specs.shelf.Lists.{All}
 use Rattle.std.proofs.shelf.Elements.{all-weaker}
 use Rattle.std.proofs.shelf.Tests.{and-from, and-parts, eq-eqb, eqb-true, le-leb, leb-true, lt-ltb, ltb-true, or-cases, or-left, or-right}
 use Rattle.model.specs.Lists.{all}
-use Rattle.model.specs.Model.{Model, Step, branch-at, count, lawful, lawful-step, no-branch, no-step, rising, step-at, steps-of, total, void}
+use Rattle.model.specs.Model.{Model, Step, branch-at, count, lawful, lawful-step, no-branch, no-step, rising, sound-branch, step-at, steps-of, total, void}
 use Rattle.model.specs.declared.Branch.{Branch}
 use Rattle.model.proofs.Tests.{all-at, all-true, each-true}
 
@@ -22,9 +22,6 @@ pub record Lawful-step (n z : ℕ) (a : Step) : Type 0 where
   pub rises : rising 0 (a .branches) ≡ true
   pub sound : All (λ b. (b .target < n) × (0 < b .weight)) (a .branches)
   pub light : total a ≤ z
-
-abbrev sound-branch : ℕ → Branch → Bool
-sound-branch n b = ltb (b .target) n && ltb 0 (b .weight)
 
 pub step-parts : (n z : ℕ) (a : Step) → lawful-step n z a ≡ true → Lawful-step n z a
 step-parts n z a h =

@@ -38,12 +38,16 @@ abbrev pub rising : ℕ → List Branch → Bool
 rising low [] = true
 rising low (b ∷ bs) = leb low (b .target) && rising (b .target + 1) bs
 
+-- a branch to one of n states, with a weight of at least 1
+abbrev pub sound-branch : ℕ → Branch → Bool
+sound-branch n b = ltb (b .target) n && ltb 0 (b .weight)
+
 -- A step of a model of n states: at least one branch, targets that exist and rise, weights of at least 1, a total of at
 -- most z.
 abbrev pub lawful-step : ℕ → ℕ → Step → Bool
 lawful-step n z a =
     ltb (a .action) 32 && ltb 0 (length (a .branches)) && rising 0 (a .branches)
-    && all (λ b. ltb (b .target) n && ltb 0 (b .weight)) (a .branches) && leb (total a) z
+    && all (sound-branch n) (a .branches) && leb (total a) z
 
 -- The laws of a model. One without states has both measures 0.
 abbrev pub lawful : Model → Bool

@@ -1,6 +1,6 @@
 -- The models that ladders and unions stand for. Assumes nothing.
 use mathlib.Core.Bool.{Bool, cond, _&&_, _||_}
-use mathlib.Core.List.{List, [], map, _++_, _∷_}
+use mathlib.Core.List.{[], map, _++_, _∷_}
 use Prim.Native.Nat.{max, ℕ, _+_, _-_}
 use lib.Dec.{eqb, leb, ltb}
 use Rattle.std.specs.Iters.{counting}

@@ -11,7 +11,7 @@ use Rattle.std.proofs.shelf.Elements.{all-getD, all-take, all-weaker}
 use Rattle.std.proofs.shelf.Lists.{drop-take, getD-map, getD-past, getD-take, length-drop, length-map, length-take-le, take-take}
 use Rattle.std.proofs.shelf.Tests.{and-from, and-parts, eq-eqb, eqb-true, le-leb, leb-true}
 use Rattle.model.specs.Lists.{all}
-use Rattle.model.specs.Model.{Step, no-step}
+use Rattle.model.specs.Model.{no-step}
 use Rattle.model.specs.declared.Branch.{Branch}
 use Rattle.model.proofs.Tests.{all-true, each-true}
 use Rattle.table.specs.Arrays.{placed, placed-row, row-in, states-in, step-in}

@@ -1,14 +1,13 @@
 -- The branches in the bytes of a field, one by one. Assumes nothing.
-use mathlib.Core.Bool.{Bool, _&&_}
+use mathlib.Core.Bool.{_&&_}
 use mathlib.Core.List.{List, [], _∷_}
 use mathlib.Core.Path.{refl, _≡_}
 use Prim.Native.Nat.{ℕ, _*_, _+_, _/_, _<_, _≤_}
 use native.Mathlib.Omega.{arith}
-use lib.Dec.{ltb}
 use lib.ListN.{drop, getD, length}
 use Rattle.std.proofs.shelf.Tests.{le-leb, lt-ltb}
 use Rattle.model.specs.Lists.{all}
-use Rattle.model.specs.Model.{rising}
+use Rattle.model.specs.Model.{rising, sound-branch}
 use Rattle.model.specs.declared.Branch.{Branch}
 use Rattle.table.specs.File.{read-branches}
 
@@ -35,10 +34,7 @@ length-read-branches (_ ∷ _ ∷ _ ∷ xs) = let h = length-read-branches xs in
 pub third-is-length : (xs : List ℕ) → length xs / 3 ≡ length (read-branches xs)
 third-is-length xs = let h = length-read-branches xs in omega (arith, h .0, h .1)
 
-abbrev sound : ℕ → Branch → Bool
-sound n b = ltb (b .target) n && ltb 0 (b .weight)
-
 -- a branch that is sound leaves the verdict to those behind it
 pub sound-more : (n least : ℕ) (b : Branch) (bs : List Branch) → least ≤ b .target → b .target < n → 0 < b .weight
-    → (rising least (b ∷ bs) && all (sound n) (b ∷ bs)) ≡ (rising (b .target + 1) bs && all (sound n) bs)
+    → (rising least (b ∷ bs) && all (sound-branch n) (b ∷ bs)) ≡ (rising (b .target + 1) bs && all (sound-branch n) bs)
 sound-more n least b bs h k l = rw (le-leb least (b .target) h, lt-ltb (b .target) n k, lt-ltb 0 (b .weight) l)

@@ -7,9 +7,9 @@ use lib.Dec.{leb, ltb}
 use lib.ListN.{getD, length}
 use Rattle.std.specs.declared.result.Result.the-variants.{Err, Ok}
 use Rattle.std.proofs.shelf.Tests.{and-from, and-left, and-parts, and-right, le-leb, le-ltb, leb-true, lt-ltb, ltb-true}
-use Rattle.fields.specs.declared.fault.FileFault.the-variants.{Limit, Number}
+use Rattle.fields.specs.declared.fault.FileFault.the-variants.{Limit}
 use Rattle.model.specs.Lists.{all}
-use Rattle.model.specs.Model.{Step, lawful-step, rising, total}
+use Rattle.model.specs.Model.{Step, lawful-step, rising, sound-branch, total}
 use Rattle.table.specs.Arrays.{branches-in, steps-in, with-step}
 use Rattle.table.specs.File.{has-room, one-more, sound-branches, sound-numbers}
 
@@ -35,7 +35,7 @@ module _ (n s : ℕ) (a : Step) where
       let A : Bool = ltb (a .action) 32 in
       let B : Bool = ltb 0 (length (a .branches)) in
       let C : Bool = rising 0 (a .branches) in
-      let D : Bool = all (λ b. ltb (b .target) n && ltb 0 (b .weight)) (a .branches) in
+      let D : Bool = all (sound-branch n) (a .branches) in
       let r = and-parts (S && A) (C && D) h in
       let q = and-parts C D (r .1) in
       let ab = and-from A B (and-parts S A (r .0) .1) (lt-ltb 0 (length (a .branches)) some) in

@@ -13,12 +13,12 @@ use Rattle.std.proofs.shelf.Sums.{sumBy-cons}
 use Rattle.model.specs.Lists.{greatest}
 use Rattle.model.specs.Model.{Step, lawful, total}
 use Rattle.model.proofs.Greatest.{greatest-bounds, greatest-least}
-use Rattle.model.proofs.Laws.{Lawful, Lawful-step, lawful-from-parts, lawful-parts}
+use Rattle.model.proofs.Laws.{Lawful-row, Lawful-step, lawful-from-parts, lawful-parts, row-among-more}
 use Rattle.table.specs.Arrays.{measured}
 
--- a step that is lawful in a model of n states, whatever its bound on totals
+-- a row that is lawful in a model of n states under the largest measures there may be
 abbrev pub Sound-row : ℕ → List Step → Type 0
-Sound-row n row = (length row ≤ 300) × All (Lawful-step n 1000000000) row
+Sound-row n = Lawful-row n 300 1000000000
 
 abbrev pub row-total : List Step → ℕ
 row-total row = greatest (map total row)
@@ -29,10 +29,9 @@ with-bound n y z a l h = record { known = h .known; some = h .some; rises = h .r
 pub sound-from-lawful : (ss : List (List Step)) → lawful (measured ss) ≡ true → All (Sound-row (length ss)) ss
 sound-from-lawful ss h =
     let law = lawful-parts (measured ss) h in
-    all-weaker _ (Sound-row (length ss)) (λ row r. (
-      omega (arith, r .0, law .steps),
-      all-weaker _ _ (λ a k. with-bound _ _ _ a (omega (arith, k .light, law .totals)) k) row (r .1),
-    )) ss (law .rows)
+    all-weaker _ (Sound-row (length ss))
+    (λ row r. row-among-more (length ss) (length ss) (measured ss .p) 300 (measured ss .z) 1000000000 row (omega arith) (law .steps) (law .totals) r)
+    ss (law .rows)
 
 all-with : {X : Type 0} (P Q R : X → Type 0) → ((x : X) → P x → Q x → R x) → (xs : List X) → All P xs → All Q xs → All R xs
 all-with P Q R f [] h k = tt

@@ -5,11 +5,9 @@ use Prim.Native.Nat.{ℕ, _+_, _<_, _≤_}
 use native.Mathlib.Omega.{arith}
 use lib.ListN.{getD, length}
 use Rattle.std.proofs.shelf.Elements.{all-getD}
-use Rattle.model.specs.Model.{Step, count, no-step, step-at, steps-of}
-use Rattle.table.specs.Arrays.{row-in, states-in, step-in}
+use Rattle.model.specs.Model.{count, no-step, step-at, steps-of}
+use Rattle.table.specs.Arrays.{row-in, step-in}
 use Rattle.table.specs.Meaning.{table-of}
-use Rattle.table.specs.declared.row.Entry.{Entry}
-use Rattle.table.specs.declared.row.Row.{Row}
 use Rattle.table.specs.declared.table.Table.{Table}
 use Rattle.table.proofs.Arrays.{Placed, Placed-row, entry-inside, length-row-in, length-states-in, no-entry, no-row, placed-parts, row-in-at, row-in-past, states-in-at, states-in-past}
 
@@ -19,9 +17,6 @@ module _ (t : Table) where
 
   tall : t .states ≤ length (t .rows)
   tall = omega (arith, holds .tall, t .few)
-
-  pub row-of : ℕ → Row
-  row-of s = getD (t .rows) s no-row
 
   pub row-holds : (s : ℕ) → s < t .states → Placed-row (t .used) (getD (t .rows) s no-row)
   row-holds s l = all-getD (Placed-row (t .used)) (t .rows) s no-row (omega (arith, holds .tall, t .few)) (holds .each)

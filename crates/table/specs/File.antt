@@ -10,7 +10,7 @@ use Rattle.fields.specs.Fields.{Read, Start, field-of, in-turn, of-file, starts
 use Rattle.fields.specs.declared.fault.FileFault.{FileFault}
 use Rattle.fields.specs.declared.fault.FileFault.the-variants.{Limit, Number}
 use Rattle.model.specs.Lists.{all}
-use Rattle.model.specs.Model.{Model, Step, rising, total}
+use Rattle.model.specs.Model.{Model, Step, rising, sound-branch, total}
 use Rattle.model.specs.declared.Branch.{Branch}
 use Rattle.table.specs.Arrays.{branches-in, measured, steps-in, with-step}
 use Rattle.table.specs.Format.{allowed-size, due-tag}
@@ -26,7 +26,7 @@ read-branches (target ∷ high ∷ low ∷ bytes) = record { target = target; we
 
 -- targets below n that rise, and weights of at least 1
 abbrev pub sound-branches : ℕ → List Branch → Bool
-sound-branches n bs = rising 0 bs && all (λ b. ltb (b .target) n && ltb 0 (b .weight)) bs
+sound-branches n bs = rising 0 bs && all (sound-branch n) bs
 
 -- a step of state s of n, with all its numbers in range and order
 abbrev pub sound-numbers : ℕ → ℕ → Step → Bool

@@ -15,16 +15,19 @@ use fields::fault::FileFault;
 use fields::fault::FileFromField;
 use fields::field::read_field;
 
-/// The most states of a model, and the number of actions.
+/// The most states of a model.
 const STATES: u8 = 64;
 
+/// The number of actions.
 const ACTIONS: u8 = 32;
 
-/// The most steps of a state, and the most steps and branches of a file.
+/// The most steps of a state.
 const ROW_STEPS: usize = 16;
 
+/// The most steps of a file.
 const FILE_STEPS: usize = 256;
 
+/// The most branches of a file.
 const FILE_BRANCHES: usize = 1024;
 
 /// The largest total of a step.

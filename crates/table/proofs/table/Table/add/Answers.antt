@@ -1,7 +1,5 @@
 -- Assumes nothing.
-use mathlib.Core.List.{List}
 use mathlib.Core.Path.{_∙_}
-use Prim.Native.Nat.{ℕ}
 use native.Mathlib.Omega.{arith}
 use Rattle.std.proofs.shelf.Lists.{take-rest}
 use Rattle.std.proofs.shelf.Results.{cases-weaker}

@@ -1,7 +1,6 @@
 -- Assumes nothing.
 use mathlib.Core.Path.{ap, sym, _∙_}
-use native.Mathlib.Omega.{arith}
-use lib.ListN.{getD, length}
+use lib.ListN.{getD}
 use Rattle.std.proofs.shelf.Lists.{getD-past}
 use Rattle.model.specs.Model.{no-branch}
 use Rattle.table.proofs.table.Table.branch.Needs as need

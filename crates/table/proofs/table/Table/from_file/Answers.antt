@@ -1,9 +1,8 @@
 -- Assumes nothing.
 use mathlib.Core.Path.{ap, sym, _∙_, _≡_}
-use Prim.Native.Nat.{ℕ, _≤_}
 use native.Mathlib.Omega.{arith}
 use borrow.Author.Needs.{needs}
-use lib.ListN.{getD, length}
+use lib.ListN.{length}
 use Rattle.std.specs.declared.result.Result.the-variants.{Err, Ok}
 use Rattle.std.proofs.shelf.Results.{err-from-errBy}
 use Rattle.fields.specs.Fields.{in-turn, starts, then}

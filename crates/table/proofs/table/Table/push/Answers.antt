@@ -1,7 +1,7 @@
 -- A table with one more step keeps every invariant. Assumes nothing.
 use mathlib.Core.Bool.{true}
 use mathlib.Core.List.{List, [], _++_, _∷_}
-use mathlib.Core.Path.{ap, subst, sym, _∙_, _≡_}
+use mathlib.Core.Path.{ap, sym, _∙_, _≡_}
 use Prim.Native.Nat.{max, ℕ, _+_, _<_, _≤_}
 use native.Mathlib.Omega.{arith}
 use lib.ListN.{getD, length, set}

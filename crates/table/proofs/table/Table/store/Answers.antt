@@ -8,11 +8,10 @@ use borrow.Rule.Slice.PartMut.{putMid}
 use lib.ListN.{drop, length, take}
 use Rattle.std.proofs.shelf.Lists.{length-append, length-drop, length-take-le, take-at, take-take}
 use Rattle.std.proofs.shelf.Parts.{between-putMid, take-putMid-below}
-use Rattle.model.specs.Model.{Step, lawful}
+use Rattle.model.specs.Model.{lawful}
 use Rattle.model.specs.declared.Branch.{Branch}
-use Rattle.table.specs.Arrays.{branches-in, measured, placed, states-in, step-in, steps-in}
+use Rattle.table.specs.Arrays.{branches-in, measured, placed, states-in, steps-in}
 use Rattle.table.specs.Meaning.{states-of}
-use Rattle.table.specs.declared.row.Entry.{Entry}
 use Rattle.table.specs.declared.table.Table.{Table}
 use Rattle.table.proofs.Arrays.{placed-from-parts, states-in-kept}
 use Rattle.table.proofs.Tables.{holds}
