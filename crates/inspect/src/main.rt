@@ -1,4 +1,6 @@
 // Reads a model file from standard input and lists the model that it holds, or says what is wrong with it and where.
+#![tactic(auto)]
+
 use anyhow::anyhow;
 use fields::fault::FileFault;
 use model::source::Source;

@@ -1,4 +1,6 @@
 // Judges the sentence on standard input in the model of a file, and lists where each line holds and how deep it is.
+#![tactic(auto)]
+
 ghost use Rattle.std.specs.Prelude.{◌<◌, ◌≤◌, length, IfSome};
 
 use anyhow::anyhow;

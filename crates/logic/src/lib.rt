@@ -1,4 +1,6 @@
 // Sentences in files, and the judge, who says where a sentence holds and how deep it is.
+#![tactic(auto)]
+
 mod depths;
 pub mod fault;
 pub mod format;

@@ -1,4 +1,6 @@
 // Models of machines that draw lots, and the trait of the sources that answer questions about one.
+#![tactic(auto)]
+
 pub mod source;
 
 /// A branch of a step: the state that it leads to, and its weight.

@@ -1,4 +1,6 @@
 // Tests of the sources and of the model file: worked examples, each bound at its edge, each refusal.
+#![tactic(auto)]
+
 #[cfg(test)]
 mod files;
 #[cfg(test)]

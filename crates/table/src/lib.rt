@@ -1,4 +1,6 @@
 // The table: a source over its own arrays, which a model file fills.
+#![tactic(auto)]
+
 mod bytes;
 pub mod format;
 mod row;

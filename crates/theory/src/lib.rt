@@ -1,4 +1,6 @@
 // Sentences about the states of a model, and what is proved of them whatever the model and however large the sentence.
+#![tactic(auto)]
+
 ghost use Rattle.theory.specs.Laws.{DepthZeroConstant, LinesMean};
 
 /// A part of a step-line: a line, and the least share, k of m, of a step's weight that must lead to where that line holds.
