@@ -3,5 +3,5 @@ use Rattle.std.proofs.Common.{arith}
 use Rattle.sources.proofs.Sides.{count_by_side}
 use Rattle.sources.proofs.disjoint.UnionSource.states.Goals as goal
 
-pub returns-in-default : goal.returns-in-default
-returns-in-default g c = omega (arith, count_by_side c.in-default.not-Nowhere)
+pub returns-in_default : goal.returns-in_default
+returns-in_default g c = omega (arith, count_by_side c.in_default.not-Nowhere)

@@ -4,8 +4,8 @@ use Rattle.model.proofs.Laws.{lawful_parts, target_at_most}
 use Rattle.sources.proofs.Sides.{no_target_on_right, target_by_side, target_on_right}
 use Rattle.sources.proofs.disjoint.UnionSource.target.Goals as goal
 
-pub overflow-add-result : goal.overflow-add-result
-overflow-add-result g c =
+pub overflow_add-result : goal.overflow_add-result
+overflow_add-result g c =
     let right = g.B.Source.meaning c.args.self.now.right in
     let few = (lawful_parts (g.A.Source.meaning c.args.self.now.left) (g.met.A.Source.obeys c.args.self.now.left)).few in
     let law = lawful_parts right (g.met.B.Source.obeys c.args.self.now.right) in

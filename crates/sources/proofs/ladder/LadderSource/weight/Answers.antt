@@ -13,5 +13,5 @@ returns-in-0 c = let has = c.if-not-has.ensures in omega (arith, branch_by_has c
 pub returns-in-1 : goal.returns-in-1
 returns-in-1 c = let has = c.if-not-has.ensures in omega (arith, branch_by_has c.args.self.now (λ b. b.weight) true 1)
 
-pub returns-in-default : goal.returns-in-default
-returns-in-default c = omega (arith, no_third_branch c.args.self.now (λ b. b.weight))
+pub returns-in_default : goal.returns-in_default
+returns-in_default c = omega (arith, no_third_branch c.args.self.now (λ b. b.weight))

@@ -71,19 +71,19 @@ returns-then-not-has-room c =
 
 pub store-step-requires : goal.store-step-requires
 store-step-requires c =
-    fits c.args.self.now c.args.state c.args.action c.args.branches.now c.if-not-is-sound.ensures c.if-not-has-room.ensures
+    fits c.args.self.now c.args.state c.args.action c.args.branches.now c.if-not-is_sound.ensures c.if-not-has_room.ensures
 
 pub checked-total-requires : goal.checked-total-requires
 checked-total-requires c =
     let f = fits c.args.self.now c.args.state c.args.action c.args.branches.now c.if-not-is-sound.ensures c.if-not-has-room.ensures in
     omega (arith, f, c.store-step.ensures.place.0, c.store-step.ensures.place.1)
 
-pub returns-in-default : goal.returns-in-default
-returns-in-default c =
+pub returns-in_default : goal.returns-in_default
+returns-in_default c =
     let t : Table = c.args.self.now in
     let a : Step = given c.args.action c.args.branches.now in
     let r = roomy t c.args.state c.args.action c.args.branches.now c.if-not-is-sound.ensures c.if-not-has-room.ensures in
-    let heavy = past_from_none _ c.in-default.ensures in
+    let heavy = past_from_none _ c.in_default.ensures in
     too_heavy c.args.place (states_of t) c.args.state a (sym c.if-not-is-sound.ensures) r
     (lt-leb (total a) 30000 (omega (arith, heavy, ap total c.store-step.ensures.answer)))
 
@@ -91,9 +91,9 @@ pub returns-then-total-gt-TOTAL : goal.returns-then-total-gt-TOTAL
 returns-then-total-gt-TOTAL c =
     let t : Table = c.args.self.now in
     let a : Step = given c.args.action c.args.branches.now in
-    let r = roomy t c.args.state c.args.action c.args.branches.now c.if-not-is-sound.ensures c.if-not-has-room.ensures in
+    let r = roomy t c.args.state c.args.action c.args.branches.now c.if-not-is_sound.ensures c.if-not-has_room.ensures in
     let same = same_from_some _ c.in-Some.total c.in-Some.ensures in
-    too_heavy c.args.place (states_of t) c.args.state a (sym c.if-not-is-sound.ensures) r
+    too_heavy c.args.place (states_of t) c.args.state a (sym c.if-not-is_sound.ensures) r
     (lt-leb (total a) 30000 (omega (arith, same, c.if-total-gt-TOTAL.true, ap total c.store-step.ensures.answer)))
 
 pub push-requires : goal.push-requires
@@ -103,8 +103,8 @@ push-requires c =
     let s : ℕ = c.args.state in
     let bytes : List ℕ = c.args.branches.now in
     let a : Step = given c.args.action bytes in
-    let sound = c.if-not-is-sound.ensures in
-    let room = roomy t s c.args.action bytes sound c.if-not-has-room.ensures in
+    let sound = c.if-not-is_sound.ensures in
+    let room = roomy t s c.args.action bytes sound c.if-not-has_room.ensures in
     let same = c.store-step.ensures.same in
     let weight = same_from_some _ c.in-Some.total c.in-Some.ensures in
     let light : total a ≤ 1000000000 = omega (arith, weight, c.if-total-gt-TOTAL.false, ap total c.store-step.ensures.answer) in
@@ -116,9 +116,9 @@ returns c =
     let t : Table = c.args.self.now in
     let s : ℕ = c.args.state in
     let a : Step = given c.args.action c.args.branches.now in
-    let r = roomy t s c.args.action c.args.branches.now c.if-not-is-sound.ensures c.if-not-has-room.ensures in
+    let r = roomy t s c.args.action c.args.branches.now c.if-not-is_sound.ensures c.if-not-has_room.ensures in
     let same = same_from_some _ c.in-Some.total c.in-Some.ensures in
     let light = le-leb (total a) 30000 (omega (arith, same, c.if-total-gt-TOTAL.false, ap total c.store-step.ensures.answer)) in
     let after = c.push.ensures ∙ (ap (λ ss. with_step ss s (step_in c.store-step.new.self.branches c.store-step.result)) c.store-step.ensures.same
     ∙ ap (with_step (states_of t) s) c.store-step.ensures.answer) in
-    taken_in c.args.place (states_of t) s a (sym c.if-not-is-sound.ensures) r light ∙ ap Ok (sym after)
+    taken_in c.args.place (states_of t) s a (sym c.if-not-is_sound.ensures) r light ∙ ap Ok (sym after)

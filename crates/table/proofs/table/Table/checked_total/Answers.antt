@@ -7,16 +7,16 @@ use Rattle.table.specs.Arrays.{fitting}
 use Rattle.table.proofs.Fitting.{fitting_is, fitting_past}
 use Rattle.table.proofs.table.Table.checked_total.Goals as goal
 
-pub returns-in-err-total : goal.returns-in-err-total
-returns-in-err-total c =
+pub returns-in_err-total : goal.returns-in_err-total
+returns-in_err-total c =
     let more = sum_by-drop_more (λ b. b.weight) c.part-branch-items.result.now c.loop-branch.branch-index no_branch c.loop-branch-test.true in
     c.from-residual.ensures ∙ sym (ap (λ bs. fitting (mass bs)) (sym c.part-branch-items.ensures)
-    ∙ fitting_past _ (omega (arith, more, c.in-err-total.ensures, c.loop-branch.invariant)))
+    ∙ fitting_past _ (omega (arith, more, c.in_err-total.ensures, c.loop-branch.invariant)))
 
 pub loop-branch-preserved : goal.loop-branch-preserved
 loop-branch-preserved c =
     let more = sum_by-drop_more (λ b. b.weight) c.part-branch-items.result.now c.loop-branch.branch-index no_branch c.loop-branch-test.true in
-    (omega (arith, more, c.in-ok-total.ensures, c.loop-branch.invariant), omega (arith, c.in-ok-total.ensures))
+    (omega (arith, more, c.in_ok-total.ensures, c.loop-branch.invariant), omega (arith, c.in_ok-total.ensures))
 
 pub returns : goal.returns
 returns c =

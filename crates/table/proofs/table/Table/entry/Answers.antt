@@ -3,8 +3,8 @@ use Rattle.std.proofs.Common.{arith}
 use Rattle.table.proofs.Tables.{row_holds, step_inside, step_is, step_past, step_past_row}
 use Rattle.table.proofs.table.Table.entry.Goals as goal
 
-pub offset-bounds-row-step : goal.offset-bounds-row-step
-offset-bounds-row-step c = omega (arith, c.if-step-row.true, (row_holds c.args.self.now c.args.state c.if-state-self.false).few)
+pub offset_bounds-row-step : goal.offset_bounds-row-step
+offset_bounds-row-step c = omega (arith, c.if-step-row.true, (row_holds c.args.self.now c.args.state c.if-state-self.false).few)
 
 pub bounds-row-step : goal.bounds-row-step
 bounds-row-step c = omega (arith, c.if-step-row.true, (row_holds c.args.self.now c.args.state c.if-state-self.false).few)

@@ -29,5 +29,5 @@ returns c =
     let s : ℕ = c.args.state in
     let moved = moved_over t.used (branches_in (states_of t)) c.args.count (holds t).low t.branches_counted in
     let decided = branch_room_decides (states_of t) s c.args.count
-    (omega (arith, steps_are_counted t s c.requires, c.if-self-state-ge-ROW-STEPS.false)) (omega (arith, t.steps_counted, c.if-self-ge-FILE-STEPS.false)) in
+    (omega (arith, steps_are_counted t s c.requires, c.if-self-state-ge-ROW_STEPS.false)) (omega (arith, t.steps_counted, c.if-self-ge-FILE_STEPS.false)) in
     cc (moved, decided)

@@ -23,5 +23,5 @@ returns c =
     let t : Table = c.args.self.now in
     let s : ℕ = c.args.state in
     let a : Step = record { action = c.args.action; branches = read_branches c.args.branches.now } in
-    c.in-order.ensures
+    c.in_order.ensures
     ∙ sym (ap (λ k. sound_numbers k s a) (count_is t) ∙ branches_decide t.states s a c.if-state-self.false c.if-action-ge-ACTIONS.false)

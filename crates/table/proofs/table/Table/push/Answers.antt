@@ -52,8 +52,8 @@ module _ (t : Table) (s : ℕ) (e : Entry) (known : s < t.states) (room : (get_o
   most_total_after : max t.most_total (total a) ≡ (measured (states_in t.states rows t.branches)).z
   most_total_after = rw after (omega (arith, t.total_measured, most_total_pushed (states_of t) s a inside))
 
-pub invariant-of-self : goal.invariant-of-self
-invariant-of-self c =
+pub invariant_of-self : goal.invariant_of-self
+invariant_of-self c =
     let t = c.args.self.now in
     let s = c.args.state in
     let e = c.args.step in

@@ -10,29 +10,29 @@ use Rattle.table.proofs.Turns.{field_whole, refused_with, turn_refused, turn_tak
 use Rattle.table.proofs.table.Table.read_steps.Goals as goal
 
 pub add-requires : goal.add-requires
-add-requires c = value_long (states_of c.loop-rest.self) c.loop-rest.at c.loop-rest.rest.now _ c.in-ok-field.ensures.answer
+add-requires c = value_long (states_of c.loop-rest.self) c.loop-rest.at c.loop-rest.rest.now _ c.in_ok-field.ensures.answer
 
-pub returns-in-err-add : goal.returns-in-err-add
-returns-in-err-add c =
-    let p = err_from_is_err_and c.from-residual-in-err-add.result c.from-residual-in-err-add.ensures.1 in
-    let turn = turn_refused (states_of c.loop-rest.self) c.loop-rest.at c.loop-rest.rest.now _ c.in-ok-field.ensures.answer
-    _ c.in-err-add.ensures in
+pub returns-in_err-add : goal.returns-in_err-add
+returns-in_err-add c =
+    let p = err_from_is_err_and c.from-residual-in_err-add.result c.from-residual-in_err-add.ensures.1 in
+    let turn = turn_refused (states_of c.loop-rest.self) c.loop-rest.at c.loop-rest.rest.now _ c.in_ok-field.ensures.answer
+    _ c.in_err-add.ensures in
     refused_with _ _ _ p.0 p.1 (sym c.loop-rest.invariant.0 ∙ (turn ∙ ap Err (sym p.2)))
 
-pub overflow-add-at-in-loop-rest : goal.overflow-add-at-in-loop-rest
-overflow-add-at-in-loop-rest c =
-    let w = field_whole (states_of c.loop-rest.self) c.loop-rest.at c.loop-rest.rest.now _ c.in-ok-field.ensures.answer in
+pub overflow_add-at-in-loop-rest : goal.overflow_add-at-in-loop-rest
+overflow_add-at-in-loop-rest c =
+    let w = field_whole (states_of c.loop-rest.self) c.loop-rest.at c.loop-rest.rest.now _ c.in_ok-field.ensures.answer in
     omega (arith, w, c.loop-rest.invariant.1, c.requires)
 
 pub loop-rest-smaller : goal.loop-rest-smaller
 loop-rest-smaller c =
-    let w = field_whole (states_of c.loop-rest.self) c.loop-rest.at c.loop-rest.rest.now _ c.in-ok-field.ensures.answer in
+    let w = field_whole (states_of c.loop-rest.self) c.loop-rest.at c.loop-rest.rest.now _ c.in_ok-field.ensures.answer in
     omega (arith, w)
 
 pub loop-rest-preserved : goal.loop-rest-preserved
 loop-rest-preserved c =
-    let field = c.in-ok-field.ensures.answer in
-    let turn = turn_taken (states_of c.loop-rest.self) c.loop-rest.at c.loop-rest.rest.now _ field _ c.in-ok-add.ensures in
+    let field = c.in_ok-field.ensures.answer in
+    let turn = turn_taken (states_of c.loop-rest.self) c.loop-rest.at c.loop-rest.rest.now _ field _ c.in_ok-add.ensures in
     let w = field_whole (states_of c.loop-rest.self) c.loop-rest.at c.loop-rest.rest.now _ field in
     (cc (turn, c.loop-rest.invariant.0), omega (arith, w, c.loop-rest.invariant.1))
 

@@ -52,8 +52,8 @@ module _ (t : Table) (new : List Branch) (long : length new ≡ 1024 - t.used) w
 free : (t : Table) → length (take (1024 - t.used) (drop t.used t.branches)) ≡ 1024 - t.used
 free t = length-take-le (1024 - t.used) (drop t.used t.branches) (omega (arith, length-drop t.used t.branches, (holds t).long))
 
-pub invariant-of-self : goal.invariant-of-self
-invariant-of-self c =
+pub invariant_of-self : goal.invariant_of-self
+invariant_of-self c =
     let t : Table = c.args.self.now in
     let new : List Branch = c.decode-count.new.out in
     let long = c.decode-count.auto.out ∙ free t in

@@ -33,8 +33,8 @@ facts n ss h e = rw e (record {
   most_total = sym (greatest_empty (λ row. greatest (map total row)) refl n);
 })
 
-pub invariant-of-result : goal.invariant-of-result
-invariant-of-result c =
+pub invariant_of-result : goal.invariant_of-result
+invariant_of-result c =
     let n : ℕ = c.args.states in
     let f = facts n _ c.requires (no_steps n (replicate 1024 (record { target = 0; weight = 0 })) c.requires) in
     (c.requires, (refl, (f.laws, (f.steps, (f.branches, (f.most_steps, (f.most_total, tt)))))))

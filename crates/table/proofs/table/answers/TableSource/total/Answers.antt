@@ -15,4 +15,4 @@ returns-in-Some c =
     let same = ap total c.in-Some.ensures.0 in
     let small = total_bound (table_of t) t.laws c.args.state c.args.step in
     let kept = fitting_kept sum (omega (arith, same, small)) in
-    omega (arith, same, c.unwrap-or.ensures ∙ (ap (λ o. unwrap_or o 0) c.checked-total.ensures ∙ kept))
+    omega (arith, same, c.unwrap_or.ensures ∙ (ap (λ o. unwrap_or o 0) c.checked_total.ensures ∙ kept))
