@@ -5,11 +5,11 @@ use Rattle.theory.specs.Sentences.{all_of, any_of, Line as Meant, not_of as NotL
 use Rattle.theory.specs.declared.Part.{Part}
 use Rattle.logic.specs.File.{line_at, numbers, parts_of}
 use Rattle.logic.specs.declared.line.Line.{Line}
-use Rattle.logic.specs.declared.line.Line.TheVariants.{All, Any, not_of, Step}
+use Rattle.logic.specs.declared.line.Line.TheVariants.{All, Any, Not, Step}
 use Rattle.logic.specs.declared.line.LineRead.{LineRead}
 
 abbrev pub meant : Line → Meant
-meant (not_of i) = NotLine i
+meant (Not i) = NotLine i
 meant (All bytes) = all_of (numbers bytes.now)
 meant (Any bytes) = any_of (numbers bytes.now)
 meant (Step action bytes) = step_to action (parts_of bytes.now)

@@ -41,7 +41,7 @@ impl Line<'_> {
         ensures { result ≡ line_depth depths.now (meant self.entry) }
     {
         match self {
-            Line::not_of(line) => named(depths, line, 0),
+            Line::Not(line) => named(depths, line, 0),
             Line::All(names) => deepest(names, depths),
             Line::Any(names) => deepest(names, depths),
             Line::Step(_, parts) => deepest_part(parts, depths) + 1,

@@ -22,7 +22,7 @@ const WHOLE: u32 = 1_000_000_000;
 /// A line, the numbers that it names still in bytes: two for a line number, ten for a part.
 #[derive(Clone, Copy)]
 pub enum Line<'a> {
-    not_of(u16),
+    Not(u16),
     All(&'a [u8]),
     Any(&'a [u8]),
     Step(u8, &'a [u8]),
@@ -120,8 +120,8 @@ impl<'a> Line<'a> {
     {
         match tag {
             0x11 => match next_number(value) {
-                Some((line, _)) => Line::not_of(line),
-                None => Line::not_of(0),
+                Some((line, _)) => Line::Not(line),
+                None => Line::Not(0),
             },
             0x12 => Line::All(value),
             0x13 => Line::Any(value),
@@ -144,7 +144,7 @@ impl<'a> Line<'a> {
         ensures { result ≡ fits_after before (meant self.entry) }
     {
         match self {
-            Line::not_of(line) => 0 < line && line as usize <= before,
+            Line::Not(line) => 0 < line && line as usize <= before,
             Line::All(bytes) => names_earlier(bytes, before),
             Line::Any(bytes) => names_earlier(bytes, before),
             Line::Step(action, parts) => action < ACTIONS && parts_sound(parts, before),

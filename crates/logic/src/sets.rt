@@ -134,7 +134,7 @@ impl Line<'_> {
     {
         let states = source.states();
         match self {
-            Line::not_of(line) => everywhere(states) ^ named(words, line, 0),
+            Line::Not(line) => everywhere(states) ^ named(words, line, 0),
             Line::All(names) => meet(names, words, states),
             Line::Any(names) => join(names, words, states),
             Line::Step(action, parts) => takers(source, action, parts, words),

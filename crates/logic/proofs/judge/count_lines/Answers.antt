@@ -9,15 +9,15 @@ use Rattle.logic.proofs.judge.count_lines.Goals as goal
 
 pub loop-rest-preserved : goal.loop-rest-preserved
 loop-rest-preserved c =
-    let read = c.in-ok-read.read in
+    let read = c.in_ok-read.read in
     let done = c.loop-rest.invariant.0 in (
       done ++ meant read.line ∷ [],
       omega (arith, length_push done (meant read.line), c.loop-rest.invariant.1),
-      read_more c.loop-rest.invariant.2 c.loop-rest.count read c.loop-rest.invariant.1 c.in-ok-read.ensures,
+      read_more c.loop-rest.invariant.2 c.loop-rest.count read c.loop-rest.invariant.1 c.in_ok-read.ensures,
     )
 
 pub returns : goal.returns
 returns c =
     let none = eqb-true (length c.loop-rest.rest.now) 0 (sym c.loop-rest-test.ensures) in
-    let some : 0 < length c.args.bytes.now = omega (arith, eqb-false (length c.args.bytes.now) 0 (sym c.if-is-empty.ensures)) in
+    let some : 0 < length c.args.bytes.now = omega (arith, eqb-false (length c.args.bytes.now) 0 (sym c.if-is_empty.ensures)) in
     ap Ok (sym c.loop-rest.invariant.1) ∙ sym (ap counted (sentence_is_lines c.args.bytes.now some ∙ read_all c.loop-rest.invariant.2 none))

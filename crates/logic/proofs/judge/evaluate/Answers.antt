@@ -15,13 +15,13 @@ use Rattle.logic.proofs.judge.evaluate.Goals as goal
 pub loop-last-init : goal.loop-last-init
 loop-last-init g c = ([], refl, read_none c.args.bytes.now, judged_none (g.S.Source.meaning c.args.source.now) c.args.words.now)
 
-pub slice-bounds-set-end : goal.slice-bounds-set-end
-slice-bounds-set-end g c =
+pub slice_bounds-set-end : goal.slice_bounds-set-end
+slice_bounds-set-end g c =
     let room = read_room c.loop-last.invariant.2 c.loop-last.count (length c.args.words.now) c.loop-last.invariant.1 c.loop-last-test.ensures c.requires in
     omega (arith, room, c.loop-last.invariant.3.size)
 
 pub depth-requires : goal.depth-requires
-depth-requires g c = rw sub-zero (depths_low c.loop-last.invariant.3 c.loop-last.count c.loop-last.invariant.1 c.in-ok-read.ensures.few)
+depth-requires g c = rw sub-zero (depths_low c.loop-last.invariant.3 c.loop-last.count c.loop-last.invariant.1 c.in_ok-read.ensures.few)
 
 pub bounds-words-count : goal.bounds-words-count
 bounds-words-count g c =
@@ -31,11 +31,11 @@ bounds-words-count g c =
 pub loop-last-preserved : goal.loop-last-preserved
 loop-last-preserved g c =
     let m : Model = g.S.Source.meaning c.args.source.now in
-    let read = c.in-ok-read.read in
+    let read = c.in_ok-read.read in
     let done = c.loop-last.invariant.0 in
     let here = c.loop-last.invariant.1 in
     let judged = c.loop-last.invariant.3 in
-    let off = c.in-ok-read.ensures in
+    let off = c.in_ok-read.ensures in
     let room = read_room c.loop-last.invariant.2 c.loop-last.count (length c.args.words.now) here c.loop-last-test.ensures c.requires in
     let w_is : c.set.result ≡ word (count m) (line_holds m (sets_of m done) (meant read.line)) =
     c.set.ensures (sets_of m done) (rw sub-zero (words_done judged c.loop-last.count here)) in
@@ -47,8 +47,8 @@ loop-last-preserved g c =
       judged_more judged c.loop-last.count here (meant read.line) c.set.result c.depth.result w_is d_is room off.few,
     )
 
-pub shape-of-words : goal.shape-of-words
-shape-of-words g c = c.loop-last.invariant.3.size
+pub shape_of-words : goal.shape_of-words
+shape_of-words g c = c.loop-last.invariant.3.size
 
 pub returns : goal.returns
 returns g c ls h =

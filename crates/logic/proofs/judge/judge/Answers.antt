@@ -20,12 +20,12 @@ returns-then-states-eq0 g c =
       written = written_read c.args.bytes.now;
     }
 
-pub returns-in-err-lines : goal.returns-in-err-lines
-returns-in-err-lines g c =
+pub returns-in_err-lines : goal.returns-in_err-lines
+returns-in_err-lines g c =
     let m : Model = g.S.Source.meaning c.args.source.now in
-    let p = err_from_is_err_and c.from-residual.result c.from-residual.ensures.1 in
+    let p = err_from_is_err_and c.from_residual.result c.from_residual.ensures.1 in
     let fault = fault_judged m c.args.bytes.now (length c.args.words.now) (λ e. c.if-states-eq0.false (c.states.ensures ∙ e))
-    c.in-err-lines.field-0.0 (counted_fault (sentence_file c.args.bytes.now) c.in-err-lines.field-0.0 (sym c.in-err-lines.ensures)) in
+    c.in_err-lines.field-0.0 (counted_fault (sentence_file c.args.bytes.now) c.in_err-lines.field-0.0 (sym c.in_err-lines.ensures)) in
     rw (p.1, p.2) (record {
       answer = sym (ap (answered m) fault);
       after = sym (ap (λ r. words_after m r c.args.words.now) fault);
@@ -36,7 +36,7 @@ returns-in-err-lines g c =
 pub returns-then-words-lines : goal.returns-then-words-lines
 returns-then-words-lines g c =
     let m : Model = g.S.Source.meaning c.args.source.now in
-    let lines = counted_lines (sentence_file c.args.bytes.now) c.in-ok-lines.lines (sym c.in-ok-lines.ensures) in
+    let lines = counted_lines (sentence_file c.args.bytes.now) c.in_ok-lines.lines (sym c.in_ok-lines.ensures) in
     let short = short_judged m c.args.bytes.now (length c.args.words.now) (λ e. c.if-states-eq0.false (c.states.ensures ∙ e))
     lines.0 lines.1 (omega (arith, lines.2, c.if-words-lines.true)) in
     record {
@@ -49,11 +49,11 @@ returns-then-words-lines g c =
 pub returns : goal.returns
 returns g c =
     let m : Model = g.S.Source.meaning c.args.source.now in
-    let lines = counted_lines (sentence_file c.args.bytes.now) c.in-ok-lines.lines (sym c.in-ok-lines.ensures) in
+    let lines = counted_lines (sentence_file c.args.bytes.now) c.in_ok-lines.lines (sym c.in_ok-lines.ensures) in
     let all = sentence_judged m c.args.bytes.now (length c.args.words.now) (λ e. c.if-states-eq0.false (c.states.ensures ∙ e))
     lines.0 lines.1 (omega (arith, lines.2, c.if-words-lines.false)) in
-    let told = c.in-ok-evaluate.ensures lines.0 (lines_of_sentence c.args.bytes.now lines.0 lines.1) in
-    let verdict_is : c.in-ok-evaluate.field-0 ≡ verdict m lines.0 = same_ok told.0 in
+    let told = c.in_ok-evaluate.ensures lines.0 (lines_of_sentence c.args.bytes.now lines.0 lines.1) in
+    let verdict_is : c.in_ok-evaluate.field-0 ≡ verdict m lines.0 = same_ok told.0 in
     record {
       answer = ap Ok verdict_is ∙ sym (ap (answered m) all);
       after = told.1 ∙ sym (ap (λ r. words_after m r c.args.words.now) all);

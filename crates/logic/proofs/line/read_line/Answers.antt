@@ -8,19 +8,19 @@ use Rattle.logic.specs.Format.{allowed_line, due_line}
 use Rattle.logic.specs.Lines.{meant}
 use Rattle.logic.proofs.line.read_line.Goals as goal
 
-pub overflow-add-result-2 : goal.overflow-add-result-2
-overflow-add-result-2 c =
-    let taken = field_taken due_line allowed_line c.args.place c.args.bytes.now _ c.in-ok-field.ensures.answer in
+pub overflow_add-result-2 : goal.overflow_add-result-2
+overflow_add-result-2 c =
+    let taken = field_taken due_line allowed_line c.args.place c.args.bytes.now _ c.in_ok-field.ensures.answer in
     omega (arith, taken.whole, c.requires)
 
 pub returns : goal.returns
 returns c =
-    let taken = field_taken due_line allowed_line c.args.place c.args.bytes.now _ c.in-ok-field.ensures.answer in
-    let fits : fits_after c.args.before (meant c.from-field-line.result) ≡ true = sym c.if-not-fits-after.ensures in
-    let same : line_of c.in-ok-field.field.tag c.in-ok-field.field.value.now ≡ meant c.from-field-line.result =
-    sym c.from-field-line.ensures in
+    let taken = field_taken due_line allowed_line c.args.place c.args.bytes.now _ c.in_ok-field.ensures.answer in
+    let fits : fits_after c.args.before (meant c.from_field-line.result) ≡ true = sym c.if-not-fits_after.ensures in
+    let same : line_of c.in_ok-field.field.tag c.in_ok-field.field.value.now ≡ meant c.from_field-line.result =
+    sym c.from_field-line.ensures in
     record {
-      line = simp (c.in-ok-field.ensures.answer, same, fits, lt-ltb c.args.before 4095 c.if-before-ge-LINES.false);
+      line = simp (c.in_ok-field.ensures.answer, same, fits, lt-ltb c.args.before 4095 c.if-before-ge-LINES.false);
       fits = fits;
       few = c.if-before-ge-LINES.false;
       next = rw (add_assoc c.args.place 3) taken.next;

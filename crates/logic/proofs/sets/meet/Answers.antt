@@ -17,4 +17,4 @@ loop-line-preserved c sets h =
 pub returns : goal.returns
 returns c sets h =
     meets_all sets c.args.states c.loop-line.set (numbers c.loop-line.names.now) (numbers c.args.names.now)
-    c.in-default.ensures (c.loop-line.invariant sets h)
+    c.in_default.ensures (c.loop-line.invariant sets h)

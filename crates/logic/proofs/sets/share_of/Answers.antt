@@ -18,8 +18,8 @@ contains-requires g c =
       target_inside m (g.met.S.Source.obeys c.args.source.now) c.args.state c.args.step c.loop-branch.branch inside,
     )
 
-pub overflow-add-sum : goal.overflow-add-sum
-overflow-add-sum g c =
+pub overflow_add-sum : goal.overflow_add-sum
+overflow_add-sum g c =
     let m : Model = g.S.Source.meaning c.args.source.now in
     let a : Step = step_at m c.args.state c.args.step in
     let inside : c.loop-branch.branch < length a.branches = omega (arith, c.branches-branch-end.ensures, c.loop-branch-test.true) in

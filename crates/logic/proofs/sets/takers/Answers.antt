@@ -10,8 +10,8 @@ use Rattle.logic.proofs.Words.{or_bit, word_suc}
 use Rattle.logic.proofs.sets.takers.Goals as goal
 use Rattle.logic.proofs.sets.takers.Goals.{else-takes, then-takes}
 
-pub overflow-shl-set : goal.overflow-shl-set
-overflow-shl-set g c =
+pub overflow_shl-set : goal.overflow_shl-set
+overflow_shl-set g c =
     let law = lawful_parts (g.S.Source.meaning c.args.source.now) (g.met.S.Source.obeys c.args.source.now) in
     omega (arith, c.loop-state-test.true, c.states-state-end.ensures, law.few)
 

@@ -60,31 +60,31 @@ module _ (t u : Table) (s action : ℕ) (bytes : List ℕ) (same : states_of u �
             (ap (λ n. sound_numbers n s a) (sym (count_is u)) ∙ sound-here) (omega (arith, (length_read_branches bytes).1, long)) light;
       }
 
-pub has-room-requires : goal.has-room-requires
-has-room-requires c = known c.args.self.now c.args.state c.args.action c.args.branches.now c.if-not-is-sound.ensures
+pub has_room-requires : goal.has_room-requires
+has_room-requires c = known c.args.self.now c.args.state c.args.action c.args.branches.now c.if-not-is_sound.ensures
 
-pub returns-then-not-has-room : goal.returns-then-not-has-room
-returns-then-not-has-room c =
+pub returns-then-not-has_room : goal.returns-then-not-has_room
+returns-then-not-has_room c =
     let t : Table = c.args.self.now in
-    no_room c.args.place (states_of t) c.args.state _ (sym c.if-not-is-sound.ensures)
-    (ap (has_room (states_of t) c.args.state) (sym (third_is_length c.args.branches.now)) ∙ sym c.if-not-has-room.ensures)
+    no_room c.args.place (states_of t) c.args.state _ (sym c.if-not-is_sound.ensures)
+    (ap (has_room (states_of t) c.args.state) (sym (third_is_length c.args.branches.now)) ∙ sym c.if-not-has_room.ensures)
 
 pub store-step-requires : goal.store-step-requires
 store-step-requires c =
     fits c.args.self.now c.args.state c.args.action c.args.branches.now c.if-not-is_sound.ensures c.if-not-has_room.ensures
 
-pub checked-total-requires : goal.checked-total-requires
-checked-total-requires c =
-    let f = fits c.args.self.now c.args.state c.args.action c.args.branches.now c.if-not-is-sound.ensures c.if-not-has-room.ensures in
+pub checked_total-requires : goal.checked_total-requires
+checked_total-requires c =
+    let f = fits c.args.self.now c.args.state c.args.action c.args.branches.now c.if-not-is_sound.ensures c.if-not-has_room.ensures in
     omega (arith, f, c.store-step.ensures.place.0, c.store-step.ensures.place.1)
 
 pub returns-in_default : goal.returns-in_default
 returns-in_default c =
     let t : Table = c.args.self.now in
     let a : Step = given c.args.action c.args.branches.now in
-    let r = roomy t c.args.state c.args.action c.args.branches.now c.if-not-is-sound.ensures c.if-not-has-room.ensures in
+    let r = roomy t c.args.state c.args.action c.args.branches.now c.if-not-is_sound.ensures c.if-not-has_room.ensures in
     let heavy = past_from_none _ c.in_default.ensures in
-    too_heavy c.args.place (states_of t) c.args.state a (sym c.if-not-is-sound.ensures) r
+    too_heavy c.args.place (states_of t) c.args.state a (sym c.if-not-is_sound.ensures) r
     (lt-leb (total a) 30000 (omega (arith, heavy, ap total c.store-step.ensures.answer)))
 
 pub returns-then-total-gt-TOTAL : goal.returns-then-total-gt-TOTAL

@@ -10,7 +10,7 @@ use Rattle.table.proofs.table.Table.checked_total.Goals as goal
 pub returns-in_err-total : goal.returns-in_err-total
 returns-in_err-total c =
     let more = sum_by-drop_more (λ b. b.weight) c.part-branch-items.result.now c.loop-branch.branch-index no_branch c.loop-branch-test.true in
-    c.from-residual.ensures ∙ sym (ap (λ bs. fitting (mass bs)) (sym c.part-branch-items.ensures)
+    c.from_residual.ensures ∙ sym (ap (λ bs. fitting (mass bs)) (sym c.part-branch-items.ensures)
     ∙ fitting_past _ (omega (arith, more, c.in_err-total.ensures, c.loop-branch.invariant)))
 
 pub loop-branch-preserved : goal.loop-branch-preserved

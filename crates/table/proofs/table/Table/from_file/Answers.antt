@@ -7,14 +7,14 @@ use Rattle.table.specs.File.{step_field}
 use Rattle.table.proofs.Turns.{refused_with, steps_decide}
 use Rattle.table.proofs.table.Table.from_file.Goals as goal
 
-pub returns-in_err-read-steps : goal.returns-in_err-read-steps
-returns-in_err-read-steps c =
-    let p = err_from_is_err_and c.from-residual-in_err-read-steps.result c.from-residual-in_err-read-steps.ensures.1 in
+pub returns-in_err-read_steps : goal.returns-in_err-read_steps
+returns-in_err-read_steps c =
+    let p = err_from_is_err_and c.from_residual-in_err-read_steps.result c.from_residual-in_err-read_steps.ensures.1 in
     let one : length c.in_ok-field.field.value.now ≡ 1 = search rules in
     let file = steps_decide c.args.bytes.now _ c.in_ok-field.ensures.answer one (omega (arith, c.if-states-lt1.false))
     (omega (arith, c.if-states-gt-STATES.false)) in
-    let steps = ap (λ ss. in_turn step_field ss (starts 0 4 c.in_ok-field.field.rest.now)) (sym c.with-states-table.ensures)
-    ∙ (c.in_err-read-steps.ensures ∙ ap Err (sym p.2)) in
+    let steps = ap (λ ss. in_turn step_field ss (starts 0 4 c.in_ok-field.field.rest.now)) (sym c.with_states-table.ensures)
+    ∙ (c.in_err-read_steps.ensures ∙ ap Err (sym p.2)) in
     refused_with _ _ _ p.0 p.1 (file ∙ ap (λ r. then r (λ ss. Ok (measured ss))) steps)
 
 pub returns : goal.returns

@@ -7,20 +7,20 @@ use Rattle.table.specs.declared.table.Table.{Table}
 use Rattle.table.proofs.Deciding.{branch_room_decides, row_full, steps_full}
 use Rattle.table.proofs.Tables.{holds, steps_are_counted}
 use Rattle.table.proofs.table.Table.has_room.Goals as goal
-use Rattle.table.proofs.table.Table.has_room.Goals.{then-self-state-ge-ROW-STEPS-via-else-self-state-ge-ROW-STEPS+then-self-ge-FILE-STEPS, then-self-state-ge-ROW-STEPS-via-then-self-state-ge-ROW-STEPS}
+use Rattle.table.proofs.table.Table.has_room.Goals.{then-self-state-ge-ROW_STEPS-via-else-self-state-ge-ROW_STEPS+then-self-ge-FILE_STEPS, then-self-state-ge-ROW_STEPS-via-then-self-state-ge-ROW_STEPS}
 
 moved_over : (used all count : ℕ) → used ≤ 1024 → used ≡ all → leb count (1024 - used) ≡ leb (all + count) 1024
 moved_over used all count h e = grind (arith, nat_tests)
 
-pub returns-then-self-state-ge-ROW-STEPS : goal.returns-then-self-state-ge-ROW-STEPS
-returns-then-self-state-ge-ROW-STEPS c =
+pub returns-then-self-state-ge-ROW_STEPS : goal.returns-then-self-state-ge-ROW_STEPS
+returns-then-self-state-ge-ROW_STEPS c =
     let t : Table = c.args.self.now in
     let s : ℕ = c.args.state in
-    elim c.then-self-state-ge-ROW-STEPS.branch [
-      | then-self-state-ge-ROW-STEPS-via-then-self-state-ge-ROW-STEPS w ↦
-          sym (row_full (states_of t) s c.args.count (omega (arith, steps_are_counted t s c.requires, w.if-self-state-ge-ROW-STEPS.true)))
-      | then-self-state-ge-ROW-STEPS-via-else-self-state-ge-ROW-STEPS+then-self-ge-FILE-STEPS w ↦
-          sym (steps_full (states_of t) s c.args.count (omega (arith, t.steps_counted, w.if-self-ge-FILE-STEPS.true)))
+    elim c.then-self-state-ge-ROW_STEPS.branch [
+      | then-self-state-ge-ROW_STEPS-via-then-self-state-ge-ROW_STEPS w ↦
+          sym (row_full (states_of t) s c.args.count (omega (arith, steps_are_counted t s c.requires, w.if-self-state-ge-ROW_STEPS.true)))
+      | then-self-state-ge-ROW_STEPS-via-else-self-state-ge-ROW_STEPS+then-self-ge-FILE_STEPS w ↦
+          sym (steps_full (states_of t) s c.args.count (omega (arith, t.steps_counted, w.if-self-ge-FILE_STEPS.true)))
     ]
 
 pub returns : goal.returns

@@ -58,25 +58,16 @@ invariant_of-self c =
     let s = c.args.state in
     let e = c.args.step in
     let k = c.requires.state in
-    let r = c.requires.room in (
-      t.few,
-      (
-        placed_after t s e k r c.requires.place.0 c.requires.place.1,
-        (
-          laws_after t s e k r c.requires.lawful,
-          (
-            steps_after t s e k r,
-            (
-              branches_after t s e k r c.requires.place.0 c.requires.place.1,
-              (
-                c.max-self.ensures ∙ most_steps_after t s e k r,
-                (c.max-self-2.ensures ∙ (ap (max t.most_total) c.requires.total ∙ most_total_after t s e k r), tt),
-              ),
-            ),
-          ),
-        ),
-      ),
-    )
+    let r = c.requires.room in
+    record {
+      few = t.few;
+      placed = placed_after t s e k r c.requires.place.0 c.requires.place.1;
+      laws = laws_after t s e k r c.requires.lawful;
+      steps_counted = steps_after t s e k r;
+      branches_counted = branches_after t s e k r c.requires.place.0 c.requires.place.1;
+      steps_measured = c.max-self.ensures ∙ most_steps_after t s e k r;
+      total_measured = c.max-self-2.ensures ∙ (ap (max t.most_total) c.requires.total ∙ most_total_after t s e k r);
+    }
 
 pub returns : goal.returns
 returns c = after c.args.self.now c.args.state c.args.step c.requires.state c.requires.room

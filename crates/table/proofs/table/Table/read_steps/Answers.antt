@@ -14,7 +14,7 @@ add-requires c = value_long (states_of c.loop-rest.self) c.loop-rest.at c.loop-r
 
 pub returns-in_err-add : goal.returns-in_err-add
 returns-in_err-add c =
-    let p = err_from_is_err_and c.from-residual-in_err-add.result c.from-residual-in_err-add.ensures.1 in
+    let p = err_from_is_err_and c.from_residual-in_err-add.result c.from_residual-in_err-add.ensures.1 in
     let turn = turn_refused (states_of c.loop-rest.self) c.loop-rest.at c.loop-rest.rest.now _ c.in_ok-field.ensures.answer
     _ c.in_err-add.ensures in
     refused_with _ _ _ p.0 p.1 (sym c.loop-rest.invariant.0 ∙ (turn ∙ ap Err (sym p.2)))

@@ -57,25 +57,16 @@ invariant_of-self c =
     let t : Table = c.args.self.now in
     let new : List Branch = c.decode-count.new.out in
     let long = c.decode-count.auto.out ∙ free t in
-    let e = same t new long in (
-      t.few,
-      (
-        placed_after t new long,
-        (
-          ap (λ ss. lawful (measured ss)) e ∙ t.laws,
-          (
-            t.steps_counted ∙ sym (ap steps_in e),
-            (
-              t.branches_counted ∙ sym (ap branches_in e),
-              (
-                t.steps_measured ∙ sym (ap (λ ss. (measured ss).p) e),
-                (t.total_measured ∙ sym (ap (λ ss. (measured ss).z) e), tt),
-              ),
-            ),
-          ),
-        ),
-      ),
-    )
+    let e = same t new long in
+    record {
+      few = t.few;
+      placed = placed_after t new long;
+      laws = ap (λ ss. lawful (measured ss)) e ∙ t.laws;
+      steps_counted = t.steps_counted ∙ sym (ap steps_in e);
+      branches_counted = t.branches_counted ∙ sym (ap branches_in e);
+      steps_measured = t.steps_measured ∙ sym (ap (λ ss. (measured ss).p) e);
+      total_measured = t.total_measured ∙ sym (ap (λ ss. (measured ss).z) e);
+    }
 
 pub returns : goal.returns
 returns c =

@@ -37,7 +37,15 @@ pub invariant_of-result : goal.invariant_of-result
 invariant_of-result c =
     let n : ℕ = c.args.states in
     let f = facts n _ c.requires (no_steps n (replicate 1024 (record { target = 0; weight = 0 })) c.requires) in
-    (c.requires, (refl, (f.laws, (f.steps, (f.branches, (f.most_steps, (f.most_total, tt)))))))
+    record {
+      few = c.requires;
+      placed = refl;
+      laws = f.laws;
+      steps_counted = f.steps;
+      branches_counted = f.branches;
+      steps_measured = f.most_steps;
+      total_measured = f.most_total;
+    }
 
 pub returns : goal.returns
 returns c = no_steps c.args.states _ c.requires
