@@ -59,9 +59,8 @@ fn fields_behind_the_first(rt: HostRuntime) -> Result<(), Fail> {
     refused(&rt, &[0x12, 0, 0, 0x13, 0, 3, 0, 1, 0], 3, 3)?;
     refused(&rt, &[0x12, 0, 0, 0x14, 0, 0], 3, 3)?;
     refused(&rt, &[0x12, 0, 0, 0x14, 0, 10], 3, 3)?;
-    refused(&rt, &[0x12, 0, 0, 0x14, 0, 32], 1, 3)
-        .note("31 is allowed, 32 is not")
-        .is_err();
+    refused(&rt, &[0x12, 0, 0, 0x14, 0, 31], 1, 3)?;
+    refused(&rt, &[0x12, 0, 0, 0x14, 0, 32], 3, 3)?;
     refused(&rt, &[0x12, 0, 0, 0x11, 0, 2, 0, 3], 4, 3)
 }
 

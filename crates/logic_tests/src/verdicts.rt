@@ -1,4 +1,4 @@
-use logic::fault::Verdict;
+use logic::fault::{JudgeFault, Verdict};
 use logic::judge::judge;
 use logic::worked::fair_sentence;
 use sources::disjoint::Union;
@@ -17,13 +17,10 @@ pub(crate) fn in_coins(
     rt: &impl Abort,
     sentence: &[u8],
     words: &mut [u64],
-) -> Result<Verdict, Fail> {
+) -> Result<Verdict, JudgeFault> {
     let mut coins = Table::new();
     assert!(rt; coins.read(&TWO_COINS).is_ok());
-    match judge(&coins, sentence, words) {
-        Ok(verdict) => Ok(verdict),
-        Err(_) => Err(Fail::new("not judged")),
-    }
+    judge(&coins, sentence, words)
 }
 
 fn holds_in(rt: &impl Abort, sentence: &[u8], set: u64, depth: u16) -> Result<(), Fail> {
