@@ -1,5 +1,5 @@
 -- What judge answers, what it leaves in the words, and what holds of both. Assumes nothing.
-use Rattle.std.specs.Prelude.{◌≡◌, ℕ, ◌-◌, ◌<◌, ◌≤◌, Bool, true, false, cond, not, ◌⊎◌, List, [], ◌++◌, map, length, drop, IfOk, Some, None, Ok, Err, Option, Result, ◌==◌, nat_le, slice_index, slice_index_or}
+use Rattle.std.specs.Prelude.{◌≡◌, ℕ, ◌-◌, ◌<◌, ◌≤◌, true, false, cond, not, ◌⊎◌, List, [], ◌++◌, map, length, drop, IfOk, Some, None, Ok, Err, Option, Result, ◌==◌, nat_le, slice_index, slice_index_or}
 use Rattle.fields.specs.Faults.{number_of, place_of}
 use Rattle.fields.specs.Fields.{then}
 use Rattle.fields.specs.declared.fault.FileFault.{FileFault}

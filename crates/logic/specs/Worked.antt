@@ -1,5 +1,5 @@
 -- A worked sentence: its bytes, its lines, and where they hold in two coins, a fair and an unfair one. Assumes nothing.
-use Rattle.std.specs.Prelude.{ℕ, true, List, [], ◌∷◌}
+use Rattle.std.specs.Prelude.{ℕ, List, [], ◌∷◌}
 use Rattle.model.specs.Model.{Model}
 use Rattle.theory.specs.Sentences.{all_of, any_of, Line, not_of, step_to}
 

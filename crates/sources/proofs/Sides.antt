@@ -8,7 +8,7 @@ use Rattle.sources.specs.declared.disjoint.Side.{Side}
 use Rattle.sources.specs.declared.disjoint.Side.TheVariants.{Left, Nowhere, Right}
 use Rattle.sources.specs.Kinds.{moved, side_of, union, union_void}
 use Rattle.sources.specs.Moved.{no_target_moved, target_moved}
-use Rattle.sources.specs.UnionsLemmas.{length_rows, rows}
+use Rattle.sources.specs.Unions.{length_rows, rows}
 
 module _ (a b : Model) where
   abbrev na : ℕ

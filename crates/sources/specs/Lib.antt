@@ -1,5 +1,5 @@
--- The models that ladders and unions stand for. Assumes nothing.
+-- The models that ladders and unions stand for, and that both are lawful. Assumes nothing.
 pub mod Kinds
-pub mod UnionsLemmas
 pub mod Moved
-pub mod LaddersLemmas
+pub mod Ladders
+pub mod Unions

@@ -3,7 +3,7 @@ ghost use Rattle.std.specs.Prelude.{◌≡◌};
 ghost use Rattle.sources.specs.Kinds.{side_of, union};
 ghost use Rattle.model.specs.Model.{count};
 ghost use Rattle.model.proofs.Laws.{lawful_from_parts, lawful_parts};
-ghost use Rattle.sources.specs.UnionsLemmas.{union_is_lawful};
+ghost use Rattle.sources.specs.Unions.{union_is_lawful};
 
 use model::source::Source;
 

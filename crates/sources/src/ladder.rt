@@ -2,7 +2,7 @@
 ghost use Rattle.std.specs.Prelude.{◌≡◌, ◌+◌, ◌&&◌, ◌==◌, nat_lt};
 ghost use Rattle.sources.specs.Kinds.{ladder, ladder_fits, ladder_of};
 ghost use Rattle.model.proofs.Laws.{lawful_from_parts};
-ghost use Rattle.sources.specs.LaddersLemmas.{ladder_is_lawful};
+ghost use Rattle.sources.specs.Ladders.{ladder_is_lawful};
 
 use model::source::Source;
 

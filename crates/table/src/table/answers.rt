@@ -3,7 +3,6 @@ ghost use Rattle.std.specs.Prelude.{◌≡◌, ◌+◌, ◌≤◌, MatchOption};
 ghost use Rattle.model.specs.Model.{branch_at, no_branch, no_step, step_at, total};
 ghost use Rattle.table.specs.Arrays.{fitting, step_in};
 ghost use Rattle.table.specs.Meaning.{table_of};
-ghost use Rattle.std.proofs.Common.{rules, arith};
 
 use crate::row::Entry;
 use crate::table::Table;
@@ -66,7 +65,7 @@ impl Table {
 impl Source for Table {
     ghost meaning = { table_of };
 
-    ghost obeys = { first_of (Prim.search rules, Prim.grind (arith, Self.row.coded.inj)) };
+    ghost obeys = { λ x. x.laws };
 
     fn states(&self) -> usize {
         self.states

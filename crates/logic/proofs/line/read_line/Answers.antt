@@ -1,5 +1,5 @@
 -- Assumes nothing.
-use Rattle.std.proofs.Common.{◌≡◌, ◌+◌, true, length, sym, add_assoc, arith}
+use Rattle.std.proofs.Common.{◌≡◌, true, sym, add_assoc, arith}
 use Rattle.std.proofs.lemmas.Bool.{lt-ltb}
 use Rattle.theory.specs.Sentences.{fits_after}
 use Rattle.fields.proofs.Starts.{field_taken}

@@ -1,5 +1,5 @@
 -- Assumes nothing.
-use Rattle.std.proofs.Common.{◌<◌, sym, ◌∙◌, ap₂, arith}
+use Rattle.std.proofs.Common.{◌<◌, ◌∙◌, ap₂, arith}
 use lib.Bits.{bit_or}
 use Rattle.std.proofs.lemmas.Nat.{one_shl}
 use Rattle.model.specs.Model.{Model}

@@ -1,6 +1,6 @@
 -- What the step that `has` speaks of has for an action. Assumes nothing.
 use Rattle.std.proofs.Common.{arith}
-use Rattle.sources.specs.LaddersLemmas.{answer_by_has}
+use Rattle.sources.specs.Ladders.{answer_by_has}
 use Rattle.sources.proofs.ladder.LadderSource.action.Goals as goal
 
 pub returns-then-has : goal.returns-then-has

@@ -1,6 +1,6 @@
 -- How many branches the step that `has` speaks of has. Assumes nothing.
 use Rattle.std.proofs.Common.{length, arith}
-use Rattle.sources.specs.LaddersLemmas.{answer_by_has}
+use Rattle.sources.specs.Ladders.{answer_by_has}
 use Rattle.sources.proofs.ladder.LadderSource.branches.Goals as goal
 
 pub returns-then-has : goal.returns-then-has

@@ -1,6 +1,6 @@
 -- No step has a larger total than the first state's. Assumes nothing.
 use Rattle.std.proofs.Common.{arith}
-use Rattle.sources.specs.LaddersLemmas.{most_total_is}
+use Rattle.sources.specs.Ladders.{most_total_is}
 use Rattle.sources.proofs.ladder.LadderSource.most_total.Goals as goal
 
 pub returns : goal.returns

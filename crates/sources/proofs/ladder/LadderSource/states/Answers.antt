@@ -1,6 +1,6 @@
 -- A ladder that fits has the states that it says. Assumes nothing.
 use Rattle.std.proofs.Common.{arith}
-use Rattle.sources.specs.LaddersLemmas.{count_by_fits}
+use Rattle.sources.specs.Ladders.{count_by_fits}
 use Rattle.sources.proofs.ladder.LadderSource.states.Goals as goal
 
 pub returns-then-fits : goal.returns-then-fits

@@ -1,6 +1,6 @@
 -- One step or none, as `has` says. Assumes nothing.
 use Rattle.std.proofs.Common.{arith}
-use Rattle.sources.specs.LaddersLemmas.{steps_by_has}
+use Rattle.sources.specs.Ladders.{steps_by_has}
 use Rattle.sources.proofs.ladder.LadderSource.steps.Goals as goal
 
 pub returns-then-has : goal.returns-then-has

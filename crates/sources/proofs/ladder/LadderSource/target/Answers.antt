@@ -1,7 +1,7 @@
 -- What the branches of the step that `has` speaks of lead to. Assumes nothing.
 use Rattle.std.proofs.Common.{true, false, inl, inr, arith}
 use Rattle.std.proofs.lemmas.Bool.{cases_eq}
-use Rattle.sources.specs.LaddersLemmas.{branch_by_has, no_third_branch}
+use Rattle.sources.specs.Ladders.{branch_by_has, no_third_branch}
 use Rattle.sources.proofs.ladder.LadderSource.target.Goals.{else-has-via-else-has, else-has-via-then-has+else-branch-eq1}
 use Rattle.sources.proofs.ladder.LadderSource.target.Goals as goal
 

@@ -1,7 +1,7 @@
 -- The total of the step that `has` speaks of. Assumes nothing.
 use Rattle.std.proofs.Common.{arith}
 use Rattle.model.specs.Model.{total}
-use Rattle.sources.specs.LaddersLemmas.{answer_by_has}
+use Rattle.sources.specs.Ladders.{answer_by_has}
 use Rattle.sources.proofs.ladder.LadderSource.total.Goals as goal
 
 pub returns-then-has : goal.returns-then-has

@@ -1,6 +1,6 @@
 -- What the branches of the step that `has` speaks of weigh. Assumes nothing.
 use Rattle.std.proofs.Common.{true, false, arith}
-use Rattle.sources.specs.LaddersLemmas.{branch_by_has, no_third_branch}
+use Rattle.sources.specs.Ladders.{branch_by_has, no_third_branch}
 use Rattle.sources.proofs.ladder.LadderSource.weight.Goals as goal
 
 pub returns-then-not-has : goal.returns-then-not-has
