@@ -21,7 +21,7 @@ pub step_line_is : (value : List ℕ) → 1 ≤ length value → step_line value
 step_line_is [] h = absurd (omega arith)
 step_line_is (_ ∷ _) h = refl
 
--- the parts of a step_line that may stand behind i lines
+-- the parts of a step-line that may stand behind i lines
 pub sound_parts : (i : ℕ) (qs : List Part) → all (sound_part i) qs ≡ (all (one_of_first i) (map (λ q. q.line) qs) && all sound_share qs)
 sound_parts i [] = refl
 sound_parts i (q ∷ qs) = rw (sound_parts i qs) (and_swap (one_of_first i q.line) (sound_share q) _ _)

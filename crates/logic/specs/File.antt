@@ -27,7 +27,7 @@ parts_in (line ∷ k₁ ∷ k₀ ∷ m₁ ∷ m₀ ∷ ns) =
 abbrev pub parts_of : List ℕ → List Part
 parts_of bytes = parts_in (numbers bytes)
 
--- an action and parts (a step_line without an action has a length that is not allowed)
+-- an action and parts (a step-line without an action has a length that is not allowed)
 abbrev pub step_line : List ℕ → Line
 step_line [] = step_to 0 []
 step_line (action ∷ bytes) = step_to action (parts_of bytes)

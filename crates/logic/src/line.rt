@@ -129,7 +129,7 @@ impl<'a> Line<'a> {
         }
     }
 
-    /// The step_line of an action and parts.
+    /// The step-line of an action and parts.
     fn step_from(value: &'a [u8]) -> Line<'a>
         ensures { meant result ≡ step_line value.now }
     {

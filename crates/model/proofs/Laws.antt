@@ -8,7 +8,7 @@ use Rattle.model.specs.Model.{Model, Step, branch_at, count, lawful, lawful_step
 use Rattle.model.specs.declared.Branch.{Branch}
 use Rattle.model.proofs.Tests.{all_at, all_true, each_true}
 
--- what lawful-step says
+-- what lawful_step says
 pub record LawfulStep (n z : ℕ) (a : Step) : Type 0 where
   pub known : a.action < 32
   pub some : 0 < length a.branches

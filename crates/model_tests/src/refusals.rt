@@ -9,17 +9,12 @@ fn is_read(bytes: &[u8]) -> bool {
 }
 
 fn refused(rt: &impl Abort, bytes: &[u8], number: u8, place: usize) -> Result<(), Fail> {
-    match Table::new().read(bytes) {
-        Ok(()) => {
-            assert!(rt; false, "read");
-            Ok(())
-        },
-        Err(fault) => {
-            assert_eq!(rt; fault.number(), number);
-            assert_eq!(rt; fault.place(), place);
-            Ok(())
-        }
-    }
+    let Err(fault) = Table::new().read(bytes) else {
+        return Err(Fail::new("read"));
+    };
+    assert_eq!(rt; fault.number(), number);
+    assert_eq!(rt; fault.place(), place);
+    Ok(())
 }
 
 #[test]

@@ -1,5 +1,5 @@
 -- What a table's arrays stand for. Assumes nothing.
-use Rattle.std.specs.Prelude.{ℕ, ◌+◌, ◌^◌, Bool, cond, ◌&&◌, leb, List, [], ◌∷◌, ◌++◌, map, length, take, drop, Some, None, sum_by, Option, ◌==◌, nat_le, nat_lt, slice_index_or, slice_set}
+use Rattle.std.specs.Prelude.{ℕ, ◌+◌, ◌^◌, Bool, cond, ◌&&◌, List, [], ◌∷◌, ◌++◌, map, length, take, drop, Some, None, sum_by, Option, ◌==◌, nat_le, nat_lt, slice_index_or, slice_set}
 use Rattle.model.specs.Lists.{all, greatest}
 use Rattle.model.specs.Model.{Model, Step, total}
 use Rattle.model.specs.declared.Branch.{Branch}
@@ -40,7 +40,7 @@ branches_in ss = sum_by (λ row. sum_by (λ a. length a.branches) row) ss
 -- The arrays are as long as they were made, and each step in use keeps to the first `used` branches.
 abbrev pub placed_row : ℕ → Row → Bool
 placed_row used r =
-    (length r.steps == 16) && nat_le r.count 16 && all (λ e. leb (e.first + e.count) used) (take r.count r.steps)
+    (length r.steps == 16) && nat_le r.count 16 && all (λ e. nat_le (e.first + e.count) used) (take r.count r.steps)
 
 abbrev pub placed : ℕ → List Row → List Branch → Bool
 placed used rows bs = length rows == 64 && length bs == 1024 && nat_le used 1024 && all (placed_row used) rows

@@ -1,5 +1,5 @@
 // How a table is made, and how a step is added to it.
-ghost use Rattle.std.specs.Prelude.{◌≡◌, ◌+◌, ◌<◌, ◌≤◌, true, [], length, get_or, replicate};
+ghost use Rattle.std.specs.Prelude.{◌≡◌, ◌+◌, ◌<◌, ◌≤◌, true, [], length, replicate, slice_index_or};
 ghost use Rattle.model.specs.Model.{lawful_step, total as total_of};
 ghost use Rattle.table.specs.Arrays.{step_in, with_step};
 ghost use Rattle.table.specs.File.{read_branches};
@@ -65,7 +65,7 @@ impl Table {
     /// Adds a step, whose branches are written behind those in use, as the last one of its state.
     pub(super) fn push(&mut self, state: usize, step: Entry, total: u32)
         requires state { state < self.old.states }
-        requires room { (get_or self.old.rows state (record { steps = []; count = 0 })).count < 16 }
+        requires room { (slice_index_or self.old.rows state (record { steps = []; count = 0 })).count < 16 }
         requires few { self.old.steps < 256 }
         requires place { (step.first ≡ self.old.used) × (self.old.used + step.count ≤ 1024) }
         requires lawful { lawful_step self.old.states 1000000000 (step_in self.old.branches step) ≡ true }
