@@ -1,6 +1,6 @@
 -- The bytes of a sentence, and which sentences a file can hold. Assumes nothing.
 use Rattle.std.specs.Prelude.{◌≡◌, ℕ, ◌/◌, ◌%◌, ◌<◌, Bool, true, ◌&&◌, List, [], ◌∷◌, ◌++◌, length, Ok, nat_le, nat_lt}
-use Rattle.std.specs.List.{flat_map, AllByRecursion as All}
+use Rattle.std.specs.List.{flat_map, AllByRecursion}
 use Rattle.model.specs.Lists.{all}
 use Rattle.theory.specs.Sentences.{all_of, any_of, Line, not_of, step_to, well_formed}
 use Rattle.theory.specs.declared.Part.{Part}
@@ -40,7 +40,7 @@ fits_file ls = nat_le (length ls) 4095 && all (λ l. nat_lt (length (value_of l)
 
 -- A well-formed sentence that fits a file is written in bytes, and they read back as the same sentence.
 pub record ReadsBack (ls : List Line) : Type 0 where
-  pub bytes : All (λ b. b < 256) (sentence_bytes ls)
+  pub bytes : AllByRecursion (λ b. b < 256) (sentence_bytes ls)
   pub same : sentence_file (sentence_bytes ls) ≡ Ok ls
 
 abbrev pub RoundTrips : Type 0

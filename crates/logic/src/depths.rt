@@ -1,6 +1,6 @@
 // How deep a line is, from the depths of the lines before it.
 ghost use Rattle.std.specs.Prelude.{◌≡◌, ◌<◌, map};
-ghost use Rattle.std.specs.List.{AllByRecursion as All};
+ghost use Rattle.std.specs.List.{AllByRecursion};
 ghost use Rattle.model.specs.Lists.{greatest};
 ghost use Rattle.theory.specs.Sentences.{depth_at, line_depth};
 ghost use Rattle.logic.specs.File.{numbers, parts_of};
@@ -37,7 +37,7 @@ fn deepest_part(parts: &[u8], depths: &[u16]) -> u16
 impl Line<'_> {
     /// The depth of the line.
     pub(crate) fn depth(self, depths: &[u16]) -> u16
-        requires { All (λ d. d < 65535) depths.now }
+        requires { AllByRecursion (λ d. d < 65535) depths.now }
         ensures { result ≡ line_depth depths.now (meant self.entry) }
     {
         match self {
