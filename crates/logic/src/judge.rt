@@ -1,6 +1,6 @@
 // The judge: where the sentence of a file holds, and how deep it is.
 ghost use Rattle.std.specs.Prelude.{◌≡◌, ◌≤◌, true, List, length, Ok, Err};
-ghost use Rattle.theory.specs.Sentences.{Line as Sentence-line, well_formed};
+ghost use Rattle.theory.specs.Sentences.{Line as SentenceLine, well_formed};
 ghost use Rattle.logic.specs.File.{lines_in, sentence_file};
 ghost use Rattle.logic.specs.Judging.{JudgedSoundly, answered, counted, judged, verdict, words_after};
 ghost use Rattle.logic.specs.Writing.{fits_file, sentence_bytes};
@@ -19,7 +19,7 @@ pub fn judge<S: Source>(source: &S, bytes: &[u8], words: &mut [u64]) -> Result<V
     ensures after { words.new ≡ words_after (S.Source.meaning source.now)
         (judged (S.Source.meaning source.now) bytes.now (length words.old)) words.old }
     ensures sound { JudgedSoundly (S.Source.meaning source.now) bytes.now words.new result }
-    ensures written { (ls : List Sentence-line) → well_formed ls ≡ true → fits_file ls ≡ true
+    ensures written { (ls : List SentenceLine) → well_formed ls ≡ true → fits_file ls ≡ true
         → bytes.now ≡ sentence_bytes ls → sentence_file bytes.now ≡ Ok ls }
 {
     if source.states() == 0 {
@@ -56,8 +56,8 @@ fn count_lines(bytes: &[u8]) -> Result<usize, FileFault>
 
 /// Goes through the lines of a sound file: writes the word of each, and answers the last one's with its depth.
 fn evaluate<S: Source>(source: &S, bytes: &[u8], words: &mut [u64]) -> Result<Verdict, FileFault>
-    requires { (ls : List Sentence-line) × (lines_in bytes.now ≡ Ok ls) × (length ls ≤ length words.old) }
-    ensures { (ls : List Sentence-line) → lines_in bytes.now ≡ Ok ls
+    requires { (ls : List SentenceLine) × (lines_in bytes.now ≡ Ok ls) × (length ls ≤ length words.old) }
+    ensures { (ls : List SentenceLine) → lines_in bytes.now ≡ Ok ls
         → (result ≡ Ok (verdict (S.Source.meaning source.now) ls))
         × (words.new ≡ words_after (S.Source.meaning source.now) (Ok ls) words.old) }
 {
