@@ -4,7 +4,6 @@ use logic::judge::judge;
 use sources::ladder::Ladder;
 use std::process::Abort;
 use std::test::Fail;
-use table::table::Table;
 
 /// A source of two states that is not void.
 fn small() -> Ladder {
