@@ -1,3 +1,4 @@
--- Faults and their numbers, and fields. Assumes nothing.
+-- Faults and their numbers, numbers in bytes, and fields. Assumes nothing.
+pub mod Bytes
 pub mod Faults
 pub mod Fields
