@@ -3,7 +3,7 @@ use Rattle.std.proofs.Common.{◌≡◌, ℕ, zero, suc, ◌+◌, ◌*◌, ◌�
 use Rattle.std.proofs.lemmas.List.{length-drop, length-take-le}
 use Rattle.std.proofs.lemmas.Bool.{leb-true}
 use Rattle.fields.specs.declared.fault.FieldFault.{FieldFault}
-use Rattle.fields.specs.Fields.{Read, field_of, starts}
+use Rattle.fields.specs.Fields.{Leads, Read, field_of, starts}
 
 starts_inside : (inside place : ℕ) (bs : List ℕ) → starts inside place bs ≡ starts 0 (place + inside) (drop inside bs)
 starts_inside zero place [] = refl
@@ -48,3 +48,6 @@ module _ (due : ℕ → Bool) (allowed : ℕ → ℕ → Bool) (place : ℕ) whe
         next = ap (λ xs. record { place = place; bytes = tag ∷ high ∷ low ∷ rest } ∷ xs) (starts_inside (2 + n) (place + 1) (high ∷ low ∷ rest) ∙ rw (e, s));
       } in
       rw r.2 at taken
+
+  pub leads : (bs : List ℕ) (f : Read) → field_of due allowed place bs ≡ Ok f → Leads due allowed place bs f (place + (3 + length f.value))
+  leads bs f h = let t = field_taken bs f h in record { read = h; follows = t.next; shorter = omega (arith, t.whole) }

@@ -1,5 +1,5 @@
 -- A field off the front of a file's bytes, and a whole file as the fields of it in turn. Assumes nothing.
-use Rattle.std.specs.Prelude.{ℕ, zero, suc, ◌+◌, ◌*◌, Bool, cond, List, [], ◌∷◌, length, take, drop, Ok, Err, Result, nat_le}
+use Rattle.std.specs.Prelude.{◌≡◌, ℕ, zero, suc, ◌+◌, ◌*◌, ◌<◌, Bool, cond, List, [], ◌∷◌, length, take, drop, Ok, Err, Result, nat_le}
 use Rattle.fields.specs.declared.fault.FieldFault.{FieldFault}
 use Rattle.fields.specs.declared.fault.FileFault.{FileFault}
 use Rattle.fields.specs.declared.fault.FileFault.TheVariants.{Field}
@@ -55,6 +55,13 @@ abbrev pub starts : ℕ → ℕ → List ℕ → List Start
 starts inside place [] = []
 starts zero place (b ∷ bs) = record { place = place; bytes = b ∷ bs } ∷ starts (2 + size_given (b ∷ bs)) (place + 1) bs
 starts (suc inside) place (b ∷ bs) = starts inside (place + 1) bs
+
+-- A field that is read off the front of bytes which stand at a place; the next one begins at another place, with the bytes
+-- behind it.
+pub record Leads (due : ℕ → Bool) (allowed : ℕ → ℕ → Bool) (place : ℕ) (bytes : List ℕ) (f : Read) (next : ℕ) : Type 0 where
+  pub read : field_of due allowed place bytes ≡ Ok f
+  pub follows : starts 0 place bytes ≡ record { place = place; bytes = bytes } ∷ starts 0 next f.rest
+  pub shorter : length f.rest < length bytes
 
 -- one field after another adds to what was read before it, up to the first fault
 abbrev pub in_turn : {S : Type 0} → (S → Start → Result S FileFault) → S → List Start → Result S FileFault

@@ -3,15 +3,17 @@ ghost use Rattle.std.specs.Prelude.{◌≡◌};
 ghost use Rattle.fields.specs.Faults.{flaw_number, number_of, place_of};
 ghost use Rattle.fields.specs.declared.fault.FileFault.TheVariants.{Field};
 
+use std::fmt;
+
 /// What is wrong with a field as such.
 #[derive(Clone, Copy, PartialEq, Eq, Debug)]
 pub enum Flaw {
     /// Its head or its value runs past the end of the file, or it is due and missing.
-    Short,
+    Short = 1,
     /// Its tag is unknown or out of place.
-    Tag,
+    Tag = 2,
     /// Its tag does not allow its length.
-    Length,
+    Length = 3,
 }
 
 /// A field's flaw, with the place of its tag: the number of bytes before it in its file.
@@ -41,7 +43,7 @@ impl From<FieldFault> for FileFault {
 
 impl Flaw {
     /// The flaw of the field at a place.
-    pub(crate) fn at(self, place: usize) -> FieldFault
+    pub fn at(self, place: usize) -> FieldFault
         ensures { result ≡ record { flaw = self; place = place } }
     {
         FieldFault { flaw: self, place }
@@ -51,11 +53,7 @@ impl Flaw {
     pub fn number(self) -> u8
         ensures answer { result ≡ flaw_number self }
     {
-        match self {
-            Flaw::Short => 1,
-            Flaw::Tag => 2,
-            Flaw::Length => 3,
-        }
+        self as u8
     }
 }
 
@@ -77,8 +75,21 @@ impl FileFault {
     {
         match self {
             FileFault::Field(fault) => fault.place,
-            FileFault::Number(place) => place,
-            FileFault::Limit(place) => place,
+            FileFault::Number(place) | FileFault::Limit(place) => place,
         }
+    }
+}
+
+/// The fault's number and its place.
+impl fmt::Display for FileFault {
+    ghost use Rattle.std.specs.Prelude.{Some};
+    ghost use Rattle.fields.specs.Faults.{fault_text};
+
+    ghost output = { λ fault. Some (fault_text fault) };
+
+    fn fmt<W: fmt::Write>(&self, f: &mut fmt::Formatter<W>) -> fmt::Result {
+        let number = self.number();
+        let place = self.place();
+        write!(f, "{number} {place}")
     }
 }

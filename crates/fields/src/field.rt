@@ -1,28 +1,36 @@
-// The reader of one field, for every kind of file.
-ghost use Rattle.std.specs.Prelude.{◌≡◌, ℕ, Bool, Ok, Err, MatchResult};
+// The fields of a file: how one is read, and how each follows the one before.
+ghost use Rattle.std.specs.Prelude.{◌≡◌, ℕ, ◌+◌, ◌^◌, ◌<◌, Bool, length, true, false, Ok, Err, IfOk, MatchOption, MatchResult};
 ghost use Rattle.fields.specs.Fields.{field_of};
 
 use crate::fault::{FieldFault, Flaw};
 
-/// Which fields may stand at a place of a file: the tags that are due there, and the lengths that each allows.
+/// Which fields may stand at a place of a file: the kinds that are due there, by their tags, and the lengths that each
+/// allows.
 pub trait Rule {
+    type Kind: Copy;
+
     ghost due: { Self → ℕ → Bool };
 
     ghost allowed: { Self → ℕ → ℕ → Bool };
 
-    fn is_due(&self, tag: u8) -> bool
-        ensures { result ≡ due self.now tag };
+    /// The tag of a kind.
+    ghost tag_of: { Self.Kind → ℕ };
 
-    fn allows(&self, tag: u8, length: usize) -> bool
-        ensures { result ≡ allowed self.now tag length };
+    /// The kind that a tag names, if one that is due has it.
+    fn kind(&self, tag: u8) -> Option<Self::Kind>
+        ensures { MatchOption result (due self.now tag ≡ false) (λ kind. (due self.now tag ≡ true) × (tag_of kind ≡ tag)) };
+
+    fn allows(&self, kind: Self::Kind, length: usize) -> bool
+        ensures { result ≡ allowed self.now (tag_of kind) length };
 }
 
-/// A field, with what follows it.
+/// A field, with the place where it begins and what follows it.
 #[derive(Clone, Copy)]
-pub struct Field<'a> {
-    pub tag: u8,
+pub struct Field<'a, K> {
+    pub kind: K,
     pub value: &'a [u8],
     pub rest: &'a [u8],
+    pub place: usize,
 }
 
 /// The field at the front of `bytes`, which stand at `place` in their file. Its head, tag, length and value are looked at
@@ -31,28 +39,30 @@ pub fn read_field<'a, R: Rule>(
     rule: &R,
     bytes: &'a [u8],
     place: usize,
-) -> Result<Field<'a>, FieldFault>
+) -> Result<Field<'a, R::Kind>, FieldFault>
     ensures answer { MatchResult result
-        (λ f. field_of (R.Rule.due rule.now) (R.Rule.allowed rule.now) place bytes.now
-        ≡ Ok (record { tag = f.tag; value = f.value.now; rest = f.rest.now }))
-        (λ e. field_of (R.Rule.due rule.now) (R.Rule.allowed rule.now) place bytes.now ≡ Err e) }
+        (λ f. field_of (R.due rule.now) (R.allowed rule.now) place bytes.now
+        ≡ Ok (record { tag = R.tag_of f.kind; value = f.value.now; rest = f.rest.now }))
+        (λ e. field_of (R.due rule.now) (R.allowed rule.now) place bytes.now ≡ Err e) }
+    ensures place { IfOk result (λ f. f.place ≡ place) }
 {
     let [tag, high, low, rest @ ..] = bytes else {
         return Err(Flaw::Short.at(place));
     };
-    if !rule.is_due(*tag) {
+    let Some(kind) = rule.kind(*tag) else {
         return Err(Flaw::Tag.at(place));
-    }
-    let length = (*high as usize) * 256 + *low as usize;
-    if !rule.allows(*tag, length) {
+    };
+    let length = usize::from(u16::from_be_bytes([*high, *low]));
+    if !rule.allows(kind, length) {
         return Err(Flaw::Length.at(place));
     }
-    if length > rest.len() {
+    let Some((value, rest)) = rest.split_at_checked(length) else {
         return Err(Flaw::Short.at(place));
-    }
+    };
     Ok(Field {
-        tag: *tag,
-        value: &rest[0..length],
-        rest: &rest[length..],
+        kind,
+        value,
+        rest,
+        place,
     })
 }

@@ -3,4 +3,5 @@
 
 pub mod fault;
 pub mod field;
+pub mod file;
 pub mod values;
