@@ -50,4 +50,4 @@ module _ (due : ℕ → Bool) (allowed : ℕ → ℕ → Bool) (place : ℕ) whe
       rw r.2 at taken
 
   pub leads : (bs : List ℕ) (f : Read) → field_of due allowed place bs ≡ Ok f → Leads due allowed place bs f (place + (3 + length f.value))
-  leads bs f h = let t = field_taken bs f h in record { read = h; follows = t.next; shorter = omega (arith, t.whole) }
+  leads bs f h = let t = field_taken bs f h in record { read = h; behind = refl; follows = t.next; shorter = omega (arith, t.whole) }

@@ -60,6 +60,7 @@ starts (suc inside) place (b ∷ bs) = starts inside (place + 1) bs
 -- behind it.
 pub record Leads (due : ℕ → Bool) (allowed : ℕ → ℕ → Bool) (place : ℕ) (bytes : List ℕ) (f : Read) (next : ℕ) : Type 0 where
   pub read : field_of due allowed place bytes ≡ Ok f
+  pub behind : next ≡ place + (3 + length f.value)
   pub follows : starts 0 place bytes ≡ record { place = place; bytes = bytes } ∷ starts 0 next f.rest
   pub shorter : length f.rest < length bytes
 

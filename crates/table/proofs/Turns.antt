@@ -1,12 +1,14 @@
 -- How the fields of a model file take their turns. Assumes nothing.
-use Rattle.std.proofs.Common.{◌≡◌, ℕ, ◌+◌, ◌-◌, ◌%◌, ◌≤◌, ◌&&◌, eqb, leb, List, [], ◌∷◌, length, get_or, drop, Ok, Err, Result, refl, ap, ◌∙◌, arith, MatchResult}
+use Rattle.std.proofs.Common.{◌≡◌, ℕ, ◌-◌, ◌%◌, ◌<◌, ◌≤◌, ◌&&◌, eqb, leb, List, [], ◌∷◌, length, get_or, drop, replicate, Ok, Err, Result, refl, arith, MatchResult}
 use Rattle.std.proofs.lemmas.Bool.{and_parts, le-leb, leb-true}
-use Rattle.fields.specs.Fields.{Read, field_of, in_turn, starts, then}
+use Rattle.fields.specs.Fields.{Leads, Read, field_of, in_turn, starts, then}
+use Rattle.fields.specs.declared.fault.FieldFault.{FieldFault}
+use Rattle.fields.specs.declared.fault.FileFault.TheVariants.{Field}
 use Rattle.fields.specs.declared.fault.FileFault.{FileFault}
-use Rattle.fields.proofs.Starts.{Taken, field_taken}
-use Rattle.model.specs.Model.{Step}
+use Rattle.fields.proofs.Starts.{field_taken}
+use Rattle.model.specs.Model.{Model, Step}
 use Rattle.table.specs.Arrays.{measured}
-use Rattle.table.specs.File.{added, model_file, one_more, read_branches, read_steps, step_field}
+use Rattle.table.specs.File.{added, model_file, one_more, read_branches, step_field}
 use Rattle.table.specs.Format.{allowed_size, due_tag}
 use Rattle.table.specs.declared.format.ModelField.TheVariants.{States, Step as StepField}
 
@@ -17,26 +19,34 @@ added_is place ss [] h = absurd (omega arith)
 added_is place ss (_ ∷ []) h = absurd (omega arith)
 added_is place ss (_ ∷ _ ∷ v) h = refl
 
-module _ (ss : List (List Step)) (place : ℕ) (bs : List ℕ) (f : Read)
-    (h : field_of (due_tag StepField) (λ _ size. allowed_size StepField size) place bs ≡ Ok f) where
-  taken : Taken (due_tag StepField) (λ _ size. allowed_size StepField size) place bs f
-  taken = field_taken (due_tag StepField) (λ _ size. allowed_size StepField size) place bs f h
+-- the model that a file gives whose fields from a place on are still to come
+abbrev pub left : List (List Step) → ℕ → List ℕ → Result Model FileFault
+left ss place bs = then (in_turn step_field ss (starts 0 place bs)) (λ all. Ok (measured all))
 
-  pub turn_taken : (next : List (List Step)) → added place ss f.value ≡ Ok next
-      → in_turn step_field ss (starts 0 place bs) ≡ in_turn step_field next (starts 0 (place + (3 + length f.value)) f.rest)
-  turn_taken next e = ap (in_turn step_field ss) taken.next ∙ rw (h, e)
+abbrev pub LeadsStep : ℕ → List ℕ → Read → ℕ → Type 0
+LeadsStep = Leads (due_tag StepField) (λ _ size. allowed_size StepField size)
 
-  pub turn_refused : (fault : FileFault) → added place ss f.value ≡ Err fault → in_turn step_field ss (starts 0 place bs) ≡ Err fault
-  turn_refused fault e = ap (in_turn step_field ss) taken.next ∙ rw (h, e)
+module _ (ss : List (List Step)) (place : ℕ) (bs : List ℕ) where
+  pub turn_taken : (f : Read) (next : ℕ) (more : List (List Step)) → LeadsStep place bs f next → added place ss f.value ≡ Ok more
+      → left ss place bs ≡ left more next f.rest
+  turn_taken f next more h e = rw (h.follows, h.read, e)
 
-  pub field_whole : 3 + length f.value + length f.rest ≡ length bs
-  field_whole = taken.whole
+  pub turn_refused : (f : Read) (next : ℕ) (fault : FileFault) → LeadsStep place bs f next → added place ss f.value ≡ Err fault
+      → left ss place bs ≡ Err fault
+  turn_refused f next fault h e = rw (h.follows, h.read, e)
 
-  pub value_long : 5 ≤ length f.value
-  value_long =
+  pub value_long : (f : Read) (next : ℕ) → LeadsStep place bs f next → 5 ≤ length f.value
+  value_long f next h =
       let n : ℕ = length f.value in
+      let taken = field_taken (due_tag StepField) (λ _ size. allowed_size StepField size) place bs f h.read in
       let r = and_parts (leb 5 n && leb n 194) (eqb ((n - 2) % 3) 0) taken.fits in
       leb-true 5 n (and_parts (leb 5 n) (leb n 194) r.0).0
+
+-- a field with a flaw, which is not past the end, is the file's fault
+pub turn_flawed : (ss : List (List Step)) (place : ℕ) (bs : List ℕ) (fault : FieldFault) → 0 < length bs
+    → field_of (due_tag StepField) (λ _ size. allowed_size StepField size) place bs ≡ Err fault → left ss place bs ≡ Err (Field fault)
+turn_flawed ss place [] fault some h = absurd (omega arith)
+turn_flawed ss place (b ∷ bs) fault some h = rw h
 
 one_byte : (v : List ℕ) → length v ≡ 1 → v ≡ get_or v 0 0 ∷ []
 one_byte [] h = absurd (omega (arith, h))
@@ -44,13 +54,14 @@ one_byte (n ∷ []) h = refl
 one_byte (_ ∷ _ ∷ _) h = absurd (omega (arith, h))
 
 -- the steps behind a number of states decide about the file
-pub steps_decide : (bytes : List ℕ) (f : Read) → field_of (due_tag States) (λ _ size. allowed_size States size) 0 bytes ≡ Ok f
+pub steps_decide : (bytes : List ℕ) (f : Read) (next : ℕ) → Leads (due_tag States) (λ _ size. allowed_size States size) 0 bytes f next
     → length f.value ≡ 1 → 1 ≤ get_or f.value 0 0 → get_or f.value 0 0 ≤ 64
-    → model_file bytes ≡ then (read_steps (get_or f.value 0 0) f.rest) (λ ss. Ok (measured ss))
-steps_decide bytes f h one low high =
+    → model_file bytes ≡ left (replicate (get_or f.value 0 0) []) next f.rest
+steps_decide bytes f next h one low high =
     let n : ℕ = get_or f.value 0 0 in
     let v = one_byte f.value one in
-    rw (h, v, le-leb 1 n low, le-leb n 64 high)
+    let place : next ≡ 4 = omega (arith, h.behind) in
+    rw (h.read, v, le-leb 1 n low, le-leb n 64 high, place)
 
 -- what is refused further down is refused
 pub refused_with : {T E : Type 0} (r : Result T E) (P : T → Type 0) (Q : E → Type 0) (e : E) → r ≡ Err e → Q e → MatchResult r P Q

@@ -3,9 +3,12 @@ use Rattle.std.specs.Prelude.{ℕ, ◌-◌, ◌%◌, Bool, ◌&&◌, ◌==◌, n
 use Rattle.table.specs.declared.format.ModelField.{ModelField}
 use Rattle.table.specs.declared.format.ModelField.TheVariants.{States, Step}
 
+abbrev pub model_tag : ModelField → ℕ
+model_tag States = 0x01
+model_tag Step = 0x02
+
 abbrev pub due_tag : ModelField → ℕ → Bool
-due_tag States tag = tag == 0x01
-due_tag Step tag = tag == 0x02
+due_tag field tag = tag == model_tag field
 
 -- one byte for the number of states; two bytes and 1 to 64 branches of three for a step
 abbrev pub allowed_size : ModelField → ℕ → Bool

@@ -8,7 +8,7 @@ use crate::bytes::in_order;
 use crate::format::ModelField;
 use crate::table::Table;
 use fields::fault::FileFault;
-use fields::field::read_field;
+use fields::file::Fields;
 
 /// The most states of a model.
 const STATES: u8 = 64;
@@ -43,34 +43,19 @@ impl Table {
     fn from_file(bytes: &[u8]) -> Result<Table, FileFault>
         ensures { MatchResult result (λ t. model_file bytes.now ≡ Ok (table_of t)) (λ e. model_file bytes.now ≡ Err e) }
     {
-        let field = read_field(&ModelField::States, bytes, 0)?;
-        let [states] = field.value else {
+        let mut fields = Fields::of(ModelField::States, bytes);
+        let [states] = fields.due()?.value else {
             return Err(FileFault::Number(0));
         };
         if *states < 1 || *states > STATES {
             return Err(FileFault::Number(0));
         }
         let mut table = Table::with_states(*states as usize);
-        table.read_steps(field.rest, 4)?;
-        Ok(table)
-    }
-
-    /// Adds the steps of the fields in `bytes`, which stand at `place` in their file.
-    fn read_steps(&mut self, bytes: &[u8], place: usize) -> Result<(), FileFault>
-        requires { place + length bytes.now < 2 ^ 64 }
-        ensures { MatchResult result
-            (λ _. in_turn step_field (states_of self.old) (starts 0 place bytes.now) ≡ Ok (states_of self.new))
-            (λ e. in_turn step_field (states_of self.old) (starts 0 place bytes.now) ≡ Err e) }
-    {
-        let mut rest = bytes;
-        let mut at = place;
-        while !rest.is_empty() {
-            let field = read_field(&ModelField::Step, rest, at)?;
-            self.add(field.value, at)?;
-            at += 3 + field.value.len();
-            rest = field.rest;
+        for field in fields.by(ModelField::Step) {
+            let field = field?;
+            table.add(field.value, field.place)?;
         }
-        Ok(())
+        Ok(table)
     }
 
     /// Adds the step that a field's value gives, as the last one of its state.
