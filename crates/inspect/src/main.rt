@@ -44,9 +44,7 @@ fn list<S: Source>(rt: &impl Print, source: &S) -> io::Result<()> {
 
 /// Says what is wrong with a file, and ends with an error.
 fn report(rt: &impl Print, fault: FileFault) -> anyhow::Result<()> {
-    let number = fault.number();
-    let place = fault.place();
-    println!(rt; "fault {number} {place}")?;
+    println!(rt; "fault {fault}")?;
     Err(anyhow!("the file has a fault"))
 }
 

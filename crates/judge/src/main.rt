@@ -1,10 +1,8 @@
 // Judges the sentence on standard input in the model of a file, and lists where each line holds and how deep it is.
 #![tactic(auto)]
 
-ghost use Rattle.std.specs.Prelude.{◌<◌, ◌≤◌, length, IfSome};
-
 use anyhow::anyhow;
-use fields::field::read_field;
+use fields::file::Fields;
 use logic::fault::{JudgeFault, Verdict};
 use logic::format::SentenceField;
 use logic::judge::judge;
@@ -27,42 +25,28 @@ fn list_verdict(rt: &impl Print, verdict: Verdict) -> io::Result<()> {
     println!(rt)
 }
 
-/// Where the line that begins at `at` ends.
-fn line_end(bytes: &[u8], at: usize) -> Option<usize>
-    requires { at < length bytes.now }
-    ensures { IfSome result (λ end. (at < end) × (end ≤ length bytes.now)) }
-{
-    match read_field(&SentenceField, &bytes[at..], at) {
-        Ok(field) => Some(at + 3 + field.value.len()),
-        Err(_) => None,
-    }
-}
-
 /// Each line in turn: the lines up to one are a sentence that ends with it.
 fn list_lines(rt: &impl Print, table: &Table, bytes: &[u8], words: &mut [u64]) -> io::Result<()> {
-    let mut line = 0usize;
-    let mut at = 0;
-    while at < bytes.len() {
-        let Some(end) = line_end(bytes, at) else {
+    for (before, field) in Fields::of(SentenceField, bytes).enumerate() {
+        let Ok(field) = field else {
             return Ok(());
         };
-        let Ok(verdict) = judge(table, &bytes[0..end], words) else {
+        let end = bytes.len().saturating_sub(field.rest.len());
+        let Ok(verdict) = judge(table, &bytes[..end], words) else {
             return Ok(());
         };
-        line = line.saturating_add(1);
+        let line = before + 1;
         print!(rt; "line {line} ")?;
         list_verdict(rt, verdict)?;
-        at = end;
     }
     Ok(())
 }
 
 /// Says what is wrong, and where if it is wrong somewhere in the sentence's file, and ends with an error.
 fn report(rt: &impl Print, fault: JudgeFault) -> anyhow::Result<()> {
-    let number = fault.number();
-    match fault.place() {
-        Some(place) => println!(rt; "sentence fault {number} {place}")?,
-        None => println!(rt; "fault {number}")?,
+    match fault {
+        JudgeFault::File(fault) => println!(rt; "sentence fault {fault}")?,
+        JudgeFault::Void | JudgeFault::Words => println!(rt; "fault {fault}")?,
     }
     Err(anyhow!("the sentence is not judged"))
 }
@@ -92,9 +76,7 @@ fn main(rt: HostRuntime) -> anyhow::Result<()> {
     match table.read(model.as_slice()) {
         Ok(()) => list(&rt, &table, sentence.as_slice()),
         Err(fault) => {
-            let number = fault.number();
-            let place = fault.place();
-            println!(rt; "model fault {number} {place}")?;
+            println!(rt; "model fault {fault}")?;
             Err(anyhow!("the model file has a fault"))
         }
     }

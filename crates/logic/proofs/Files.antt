@@ -1,7 +1,7 @@
 -- A sentence file that is read: each turn adds one line, which fits after those before it, so the sentence is well-formed. Assumes nothing.
 use Rattle.std.proofs.Common.{◌≡◌, ℕ, ◌+◌, ◌<◌, Bool, true, false, cond, ltb, List, [], ◌∷◌, ◌++◌, length, Ok, Err, Result, sym, refl, ap, add-zero, arith}
 use Rattle.std.proofs.lemmas.List.{length_push}
-use Rattle.std.proofs.lemmas.Bool.{and_from, lt-ltb}
+use Rattle.std.proofs.lemmas.Bool.{and_from, lt-ltb, ltb-true}
 use Rattle.fields.specs.Fields.{Start, field_of, in_turn, of_file, starts, then}
 use Rattle.theory.specs.Sentences.{Line, fits_after, well_formed, well_formed_from}
 use Rattle.theory.proofs.Texts.{well_formed_push}
@@ -28,6 +28,11 @@ line_behind_fits i place l r h =
     let q = passed (ltb i 4095) (Ok l) _ r p.1 in
     let e : l ≡ r = cc q.1 in
     rw e at p.0
+
+pub line_behind_few : (i place : ℕ) (l r : Line) → line_behind i place l ≡ Ok r → i < 4095
+line_behind_few i place l r h =
+    let p = passed (fits_after i l) _ _ r h in
+    ltb-true i 4095 (passed (ltb i 4095) (Ok l) _ r p.1).0
 
 line_at_fits : (i : ℕ) (x : Start) (l : Line) → line_at i x ≡ Ok l → fits_after i l ≡ true
 line_at_fits i x l h =

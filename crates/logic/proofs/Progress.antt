@@ -2,12 +2,13 @@
 use Rattle.std.proofs.Common.{◌≡◌, ℕ, ◌+◌, ◌<◌, ◌≤◌, false, eqb, List, [], ◌∷◌, ◌++◌, length, Ok, Err, Result, sym, refl, ap, ◌∙◌, arith}
 use Rattle.std.proofs.lemmas.List.{nil_from_length}
 use Rattle.std.proofs.lemmas.Bool.{eqb-false}
-use Rattle.fields.specs.Fields.{in_turn, starts}
+use Rattle.fields.specs.Fields.{Leads, Read, field_of, in_turn, starts}
+use Rattle.fields.specs.declared.fault.FieldFault.{FieldFault}
 use Rattle.fields.specs.declared.fault.FileFault.{FileFault}
+use Rattle.fields.specs.declared.fault.FileFault.TheVariants.{Field}
 use Rattle.theory.specs.Sentences.{Line}
-use Rattle.logic.specs.File.{line_at, line_field, lines_in, sentence_file}
-use Rattle.logic.specs.Lines.{ReadOff, meant}
-use Rattle.logic.specs.declared.line.LineRead.{LineRead}
+use Rattle.logic.specs.File.{line_at, line_behind, line_field, line_of, lines_in, sentence_file}
+use Rattle.logic.specs.Format.{allowed_line, due_line}
 use Rattle.logic.proofs.Files.{in_turn_longer}
 use Rattle.logic.proofs.Turns.{turn_line, turn_refused}
 
@@ -22,35 +23,32 @@ lines_of_sentence (_ ∷ _) ls h = h
 -- the lines done, and those in the rest of the bytes, are the file's
 pub record ReadTo (bytes : List ℕ) (done : List Line) (place : ℕ) (rest : List ℕ) : Type 0 where
   pub turn : in_turn line_field done (starts 0 place rest) ≡ lines_in bytes
-  pub whole : place + length rest ≡ length bytes
 
 pub read_none : (bytes : List ℕ) → ReadTo bytes [] 0 bytes
-read_none bytes = record { turn = refl; whole = omega arith }
+read_none bytes = record { turn = refl }
 
 module _ {bytes : List ℕ} {done : List Line} {place : ℕ} {rest : List ℕ} (read : ReadTo bytes done place rest) where
-  pub read_all : length rest ≡ 0 → lines_in bytes ≡ Ok done
-  read_all h = sym read.turn ∙ ap (λ bs. in_turn line_field done (starts 0 place bs)) (nil_from_length rest h)
+  pub read_all : rest ≡ [] → lines_in bytes ≡ Ok done
+  read_all h = sym read.turn ∙ ap (λ bs. in_turn line_field done (starts 0 place bs)) h
 
-  pub read_more : (i : ℕ) (l : LineRead) → length done ≡ i → ReadOff i place rest l → ReadTo bytes (done ++ meant l.line ∷ []) l.place l.rest.now
-  read_more i l e off = record {
-    turn = sym (turn_line done place rest (meant l.line) _ off.next (rw e off.line)) ∙ read.turn;
-    whole = omega (arith, off.whole, read.whole);
-  }
+  -- a field that is not past the end, and has a flaw
+  pub read_flawed : (e : FieldFault) → 0 < length rest → field_of due_line allowed_line place rest ≡ Err e → lines_in bytes ≡ Err (Field e)
+  read_flawed e some h = sym read.turn ∙ turn_refused done place rest (Field e) some (rw h)
 
-  pub read_refused : (i : ℕ) (e : FileFault) → length done ≡ i → 0 < length rest → line_at i (record { place = place; bytes = rest }) ≡ Err e
-      → lines_in bytes ≡ Err e
-  read_refused i e same some h = sym read.turn ∙ turn_refused done place rest e some (rw same h)
+  module _ (i : ℕ) (same : length done ≡ i) (f : Read) (next : ℕ) (leads : Leads due_line allowed_line place rest f next) where
+    at_field : line_at i (record { place = place; bytes = rest }) ≡ line_behind i place (line_of f.tag f.value)
+    at_field = rw leads.read
 
-  -- where a line is still to come, and there is room for all, there is room for it
-  pub read_room : (i room : ℕ) → length done ≡ i → false ≡ eqb (length rest) 0
-      → ((ls : List Line) × (lines_in bytes ≡ Ok ls) × (length ls ≤ room)) → i < room
-  read_room i room same more (ls, all, fits) =
-      let some : 0 < length rest = omega (arith, eqb-false (length rest) 0 (sym more)) in
-      omega (arith, in_turn_longer done ls (starts 0 place rest) (read.turn ∙ all), starts_some place rest some)
-    where
-      starts_some : (place : ℕ) (bs : List ℕ) → 0 < length bs → 0 < length (starts 0 place bs)
-      starts_some place [] h = absurd (omega arith)
-      starts_some place (_ ∷ _) h = omega arith
+    pub read_more : (l : Line) → line_behind i place (line_of f.tag f.value) ≡ Ok l → ReadTo bytes (done ++ l ∷ []) next f.rest
+    read_more l h = record { turn = sym (turn_line done place rest l _ leads.follows (rw same (at_field ∙ h))) ∙ read.turn }
+
+    pub read_refused : (e : FileFault) → line_behind i place (line_of f.tag f.value) ≡ Err e → lines_in bytes ≡ Err e
+    read_refused e h = sym read.turn ∙ turn_refused done place rest e (omega (arith, leads.shorter)) (rw same (at_field ∙ h))
+
+    -- where a line is still to come, and there is room for all, there is room for it
+    pub read_room : (room : ℕ) → ((ls : List Line) × (lines_in bytes ≡ Ok ls) × (length ls ≤ room)) → i < room
+    read_room room (ls, all, fits) =
+        omega (arith, in_turn_longer done ls (starts 0 place rest) (read.turn ∙ all), ap length leads.follows, same)
 
 pub same_ok : {T E : Type 0} {x y : T} → ◌≡◌ {A = Result T E} (Ok x) (Ok y) → x ≡ y
 same_ok h = cc

@@ -1,6 +1,7 @@
 -- What judge answers, what it leaves in the words, and what holds of both. Assumes nothing.
 use Rattle.std.specs.Prelude.{◌≡◌, ℕ, ◌-◌, ◌<◌, ◌≤◌, true, false, cond, not, ◌⊎◌, List, [], ◌++◌, map, length, drop, IfOk, Some, None, Ok, Err, Option, Result, ◌==◌, nat_le, slice_index, slice_index_or}
-use Rattle.fields.specs.Faults.{number_of, place_of}
+use Rattle.std.specs.Fmt.{decimal}
+use Rattle.fields.specs.Faults.{fault_text, number_of, place_of}
 use Rattle.fields.specs.Fields.{then}
 use Rattle.fields.specs.declared.fault.FileFault.{FileFault}
 use Rattle.model.specs.Model.{Model, count}
@@ -21,6 +22,12 @@ abbrev pub judge_place : JudgeFault → Option ℕ
 judge_place Void = None
 judge_place (File fault) = Some (place_of fault)
 judge_place Words = None
+
+-- what is printed of a fault
+abbrev pub judge_text : JudgeFault → List ℕ
+judge_text Void = decimal 11
+judge_text (File fault) = fault_text fault
+judge_text Words = decimal 21
 
 -- a file's fault as judge's
 abbrev pub of_judge : {T : Type 0} → Result T FileFault → Result T JudgeFault

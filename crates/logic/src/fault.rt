@@ -4,6 +4,7 @@ ghost use Rattle.logic.specs.Judging.{judge_number, judge_place};
 ghost use Rattle.logic.specs.declared.fault.JudgeFault.TheVariants.{File};
 
 use fields::fault::FileFault;
+use std::fmt;
 
 /// Where a sentence holds, bit s for state s, and its depth.
 #[derive(Clone, Copy, PartialEq, Eq, Debug)]
@@ -50,6 +51,24 @@ impl JudgeFault {
         match self {
             JudgeFault::File(fault) => Some(fault.place()),
             JudgeFault::Void | JudgeFault::Words => None,
+        }
+    }
+}
+
+/// The fault's number, and its place where it has one.
+impl fmt::Display for JudgeFault {
+    ghost use Rattle.std.specs.Prelude.{Some};
+    ghost use Rattle.logic.specs.Judging.{judge_text};
+
+    ghost output = { λ fault. Some (judge_text fault) };
+
+    fn fmt<W: fmt::Write>(&self, f: &mut fmt::Formatter<W>) -> fmt::Result {
+        match self {
+            JudgeFault::File(fault) => write!(f, "{fault}"),
+            JudgeFault::Void | JudgeFault::Words => {
+                let number = self.number();
+                write!(f, "{number}")
+            }
         }
     }
 }

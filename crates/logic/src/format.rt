@@ -1,27 +1,46 @@
 // The fields of a sentence file: one for each line.
-ghost use Rattle.logic.specs.Format.{allowed_line, due_line};
+ghost use Rattle.logic.specs.Format.{allowed_line, due_line, kind_tag};
 
 use fields::field::Rule;
+
+/// The kinds of lines.
+#[derive(Clone, Copy, PartialEq, Eq, Debug)]
+pub enum LineKind {
+    Not,
+    All,
+    Any,
+    Step,
+}
 
 /// Any kind of line may stand anywhere in a sentence file.
 #[derive(Clone, Copy)]
 pub struct SentenceField;
 
 impl Rule for SentenceField {
+    type Kind = LineKind;
+
     ghost due = { λ _. due_line };
 
     ghost allowed = { λ _. allowed_line };
 
-    fn is_due(&self, tag: u8) -> bool {
-        0x11 <= tag && tag <= 0x14
+    ghost tag_of = { kind_tag };
+
+    fn kind(&self, tag: u8) -> Option<LineKind> {
+        match tag {
+            0x11 => Some(LineKind::Not),
+            0x12 => Some(LineKind::All),
+            0x13 => Some(LineKind::Any),
+            0x14 => Some(LineKind::Step),
+            _ => None,
+        }
     }
 
     /// A not-line names one line, a step-line has an action and parts of ten bytes, the others name lines in any number.
-    fn allows(&self, tag: u8, length: usize) -> bool {
-        match tag {
-            0x11 => length == 2,
-            0x14 => length % 10 == 1,
-            _ => length % 2 == 0,
+    fn allows(&self, kind: LineKind, length: usize) -> bool {
+        match kind {
+            LineKind::Not => length == 2,
+            LineKind::All | LineKind::Any => length % 2 == 0,
+            LineKind::Step => length % 10 == 1,
         }
     }
 }

@@ -6,8 +6,10 @@ ghost use Rattle.logic.specs.Judging.{JudgedSoundly, answered, counted, judged, 
 ghost use Rattle.logic.specs.Writing.{fits_file, sentence_bytes};
 
 use crate::fault::{JudgeFault, Verdict};
-use crate::line::{LINES, read_line};
-use fields::fault::{FieldFault, FileFault, Flaw};
+use crate::format::SentenceField;
+use crate::line::{LINES, Line};
+use fields::fault::{FileFault, Flaw};
+use fields::file::Fields;
 use model::source::Source;
 
 /// Judges the sentence of a file: answers where it holds and its depth, and leaves the set of line i in word i - 1; words
@@ -37,19 +39,12 @@ fn count_lines(bytes: &[u8]) -> Result<usize, FileFault>
     ensures { result ≡ counted (sentence_file bytes.now) }
 {
     if bytes.is_empty() {
-        return Err(FileFault::Field(FieldFault {
-            flaw: Flaw::Short,
-            place: 0,
-        }));
+        return Err(FileFault::from(Flaw::Short.at(0)));
     }
-    let mut rest = bytes;
-    let mut place = 0;
     let mut count = 0;
-    while !rest.is_empty() {
-        let read = read_line(rest, place, count)?;
+    for field in Fields::of(SentenceField, bytes) {
+        Line::read(&field?, count)?;
         count += 1;
-        place = read.place;
-        rest = read.rest;
     }
     Ok(count)
 }
@@ -63,20 +58,14 @@ fn evaluate<S: Source>(source: &S, bytes: &[u8], words: &mut [u64]) -> Result<Ve
 {
     let mut depths = [0; LINES];
     let mut last = Verdict { set: 0, depth: 0 };
-    let mut rest = bytes;
-    let mut place = 0;
-    let mut count = 0;
-    while !rest.is_empty() {
-        let read = read_line(rest, place, count)?;
+    for (before, field) in Fields::of(SentenceField, bytes).enumerate() {
+        let line = Line::read(&field?, before)?;
         last = Verdict {
-            set: read.line.set(source, &words[0..count]),
-            depth: read.line.depth(&depths[0..count]),
+            set: line.set(source, &words[0..before]),
+            depth: line.depth(&depths[0..before]),
         };
-        words[count] = last.set;
-        depths[count] = last.depth;
-        count += 1;
-        place = read.place;
-        rest = read.rest;
+        words[before] = last.set;
+        depths[before] = last.depth;
     }
     Ok(last)
 }

@@ -1,13 +1,14 @@
 // A line of a sentence over the bytes of its file: how it is read, and whether it may stand where it stands.
-ghost use Rattle.std.specs.Prelude.{◌≡◌, ◌+◌, ◌-◌, ◌*◌, ◌^◌, ◌<◌, [], ◌∷◌, length, Err, MatchOption, MatchResult, slice_index_or};
+ghost use Rattle.std.specs.Prelude.{◌≡◌, ◌+◌, ◌-◌, ◌*◌, ◌<◌, [], ◌∷◌, length, Ok, Err, MatchOption, MatchResult, slice_index_or};
 ghost use Rattle.model.specs.Lists.{all};
 ghost use Rattle.theory.specs.Sentences.{fits_after, one_of_first};
-ghost use Rattle.logic.specs.File.{line_at, line_of, numbers, parts_of, step_line};
-ghost use Rattle.logic.specs.Lines.{ReadOff, meant, sound_part};
+ghost use Rattle.logic.specs.File.{line_behind, line_of, numbers, parts_of, step_line};
+ghost use Rattle.logic.specs.Format.{kind_tag};
+ghost use Rattle.logic.specs.Lines.{meant, sound_part};
 
-use crate::format::SentenceField;
+use crate::format::LineKind;
 use fields::fault::FileFault;
-use fields::field::read_field;
+use fields::field::Field;
 use theory::Part;
 
 /// The most lines of a sentence file.
@@ -26,14 +27,6 @@ pub enum Line<'a> {
     All(&'a [u8]),
     Any(&'a [u8]),
     Step(u8, &'a [u8]),
-}
-
-/// A line that was read, with the bytes behind it and their place.
-#[derive(Clone, Copy)]
-pub struct LineRead<'a> {
-    pub line: Line<'a>,
-    pub rest: &'a [u8],
-    pub place: usize,
 }
 
 fn number(high: u8, low: u8) -> u16
@@ -114,18 +107,35 @@ fn parts_sound(bytes: &[u8], before: usize) -> bool
 }
 
 impl<'a> Line<'a> {
-    /// The line that a field gives.
-    fn from_field(tag: u8, value: &'a [u8]) -> Line<'a>
-        ensures { meant result ≡ line_of tag value.now }
+    /// The line of a field that stands behind `before` lines. The line's numbers are looked at first, then the number of
+    /// lines.
+    pub(crate) fn read(field: &Field<'a, LineKind>, before: usize) -> Result<Line<'a>, FileFault>
+        ensures { MatchResult result
+            (λ l. line_behind before field.now.place (line_of (kind_tag field.now.kind) field.now.value.now) ≡ Ok (meant l))
+            (λ e. line_behind before field.now.place (line_of (kind_tag field.now.kind) field.now.value.now) ≡ Err e) }
     {
-        match tag {
-            0x11 => match next_number(value) {
+        let line = Line::from_field(field.kind, field.value);
+        if !line.fits_after(before) {
+            return Err(FileFault::Number(field.place));
+        }
+        if before >= LINES {
+            return Err(FileFault::Limit(field.place));
+        }
+        Ok(line)
+    }
+
+    /// The line that a field of a kind gives.
+    fn from_field(kind: LineKind, value: &'a [u8]) -> Line<'a>
+        ensures { meant result ≡ line_of (kind_tag kind) value.now }
+    {
+        match kind {
+            LineKind::Not => match next_number(value) {
                 Some((line, _)) => Line::Not(line),
                 None => Line::Not(0),
             },
-            0x12 => Line::All(value),
-            0x13 => Line::Any(value),
-            _ => Line::step_from(value),
+            LineKind::All => Line::All(value),
+            LineKind::Any => Line::Any(value),
+            LineKind::Step => Line::step_from(value),
         }
     }
 
@@ -150,30 +160,4 @@ impl<'a> Line<'a> {
             Line::Step(action, parts) => action < ACTIONS && parts_sound(parts, before),
         }
     }
-}
-
-/// The line at the front of `bytes`, which stand at `place` in their file behind `before` lines. The field is looked at
-/// first, then the line's numbers, then the number of lines.
-pub(crate) fn read_line(
-    bytes: &[u8],
-    place: usize,
-    before: usize,
-) -> Result<LineRead<'_>, FileFault>
-    requires { place + length bytes.now < 2 ^ 64 }
-    ensures { MatchResult result (ReadOff before place bytes.now)
-        (λ e. line_at before (record { place = place; bytes = bytes.now }) ≡ Err e) }
-{
-    let field = read_field(&SentenceField, bytes, place)?;
-    let line = Line::from_field(field.tag, field.value);
-    if !line.fits_after(before) {
-        return Err(FileFault::Number(place));
-    }
-    if before >= LINES {
-        return Err(FileFault::Limit(place));
-    }
-    Ok(LineRead {
-        line,
-        rest: field.rest,
-        place: place + 3 + field.value.len(),
-    })
 }

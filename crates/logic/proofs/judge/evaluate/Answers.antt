@@ -1,60 +1,87 @@
 -- Assumes nothing.
-use Rattle.std.proofs.Common.{◌≡◌, [], ◌∷◌, ◌++◌, length, Ok, sym, refl, ap, ◌∙◌, arith}
+use Rattle.std.proofs.Common.{◌≡◌, ◌<◌, [], ◌∷◌, ◌++◌, length, Ok, sym, refl, ap, ◌∙◌, arith}
 use native.Mathlib.Nat.{sub-zero}
 use Rattle.std.proofs.lemmas.List.{length_push}
-use Rattle.std.proofs.lemmas.Bool.{eqb-true}
 use Rattle.model.specs.Model.{Model, count}
 use Rattle.theory.specs.Sentences.{depths_of, line_depth, line_holds, sets_of}
+use Rattle.logic.specs.File.{line_of}
+use Rattle.logic.specs.Format.{kind_tag}
 use Rattle.logic.specs.Judging.{verdict, words_after}
 use Rattle.logic.specs.Lines.{meant}
 use Rattle.logic.specs.Words.{word}
+use Rattle.logic.proofs.Files.{line_behind_few}
 use Rattle.logic.proofs.Judging.{depths_done, depths_low, judged_more, judged_none, words_done}
-use Rattle.logic.proofs.Progress.{read_all, read_more, read_none, read_room, same_ok}
+use Rattle.logic.proofs.Progress.{read_all, read_flawed, read_more, read_none, read_refused, read_room, same_ok}
 use Rattle.logic.proofs.judge.evaluate.Goals as goal
+use Rattle.logic.proofs.judge.evaluate.Goals.{In_ok-line}
 
-pub loop-last-init : goal.loop-last-init
-loop-last-init g c = ([], refl, read_none c.args.bytes.now, judged_none (g.S.Source.meaning c.args.source.now) c.args.words.now)
+pub loop-before-init : goal.loop-before-init
+loop-before-init g c =
+    let all = c.of.ensures.all in
+    let start = c.into_iter-before-iterator.ensures.into_iter_gives in
+    let none = read_none c.args.bytes.now in (
+      [],
+      sym (rw start c.enumerate-before-items.ensures.count),
+      rw (start, c.enumerate-before-items.ensures.source, all.0, all.1) none,
+      judged_none (g.S.Source.meaning c.args.source.now) c.args.words.now,
+    )
+
+-- the line that is read has its place among the words and the depths
+room : (g : _) (c : In_ok-line g) → c.in-Some.before < length c.args.words.now
+room g c =
+    let steps = c.in-Some.ensures.steps in
+    let taken = rw c.in_ok-field.was at steps.0.2 in
+    rw steps.1 (read_room c.loop-before.invariant.2 _ c.loop-before.invariant.1 _ _ taken.2 (length c.args.words.now) c.requires)
+
+few : (g : _) (c : In_ok-line g) → c.in-Some.before < 4095
+few g c =
+    let field = c.in_ok-field.field-0 in
+    line_behind_few c.in-Some.before field.place (line_of (kind_tag field.kind) field.value.now) (meant c.in_ok-line.line) c.in_ok-line.ensures
 
 pub slice_bounds-set-end : goal.slice_bounds-set-end
-slice_bounds-set-end g c =
-    let room = read_room c.loop-last.invariant.2 c.loop-last.count (length c.args.words.now) c.loop-last.invariant.1 c.loop-last-test.ensures c.requires in
-    omega (arith, room, c.loop-last.invariant.3.size)
+slice_bounds-set-end g c = omega (arith, room g c, c.loop-before.invariant.3.size)
+
+pub slice_bounds-depth-end : goal.slice_bounds-depth-end
+slice_bounds-depth-end g c = let l = few g (goal.at.slice_bounds-depth-end g c).In_ok-line in omega (arith, l)
 
 pub depth-requires : goal.depth-requires
-depth-requires g c = rw sub-zero (depths_low c.loop-last.invariant.3 c.loop-last.count c.loop-last.invariant.1 c.in_ok-read.ensures.few)
+depth-requires g c =
+    let here = c.loop-before.invariant.1 ∙ sym c.in-Some.ensures.steps.1 in
+    rw sub-zero (depths_low c.loop-before.invariant.3 c.in-Some.before here (few g (goal.at.depth-requires g c).In_ok-line))
 
-pub bounds-words-count : goal.bounds-words-count
-bounds-words-count g c =
-    let room = read_room c.loop-last.invariant.2 c.loop-last.count (length c.args.words.now) c.loop-last.invariant.1 c.loop-last-test.ensures c.requires in
-    omega (arith, room, c.loop-last.invariant.3.size)
+pub bounds-words-before : goal.bounds-words-before
+bounds-words-before g c = omega (arith, room g (goal.at.bounds-words-before g c).In_ok-line, c.loop-before.invariant.3.size)
 
-pub loop-last-preserved : goal.loop-last-preserved
-loop-last-preserved g c =
+pub bounds-depths-before : goal.bounds-depths-before
+bounds-depths-before g c = few g (goal.at.bounds-depths-before g c).In_ok-line
+
+pub loop-before-preserved : goal.loop-before-preserved
+loop-before-preserved g c =
     let m : Model = g.S.Source.meaning c.args.source.now in
-    let read = c.in_ok-read.read in
-    let done = c.loop-last.invariant.0 in
-    let here = c.loop-last.invariant.1 in
-    let judged = c.loop-last.invariant.3 in
-    let off = c.in_ok-read.ensures in
-    let room = read_room c.loop-last.invariant.2 c.loop-last.count (length c.args.words.now) here c.loop-last-test.ensures c.requires in
-    let w_is : c.set.result ≡ word (count m) (line_holds m (sets_of m done) (meant read.line)) =
-    c.set.ensures (sets_of m done) (rw sub-zero (words_done judged c.loop-last.count here)) in
-    let d_is : c.depth.result ≡ line_depth (depths_of done) (meant read.line) =
-    c.depth.ensures ∙ ap (λ ds. line_depth ds (meant read.line)) (rw sub-zero (depths_done judged c.loop-last.count here)) in (
-      done ++ meant read.line ∷ [],
-      omega (arith, length_push done (meant read.line), here),
-      read_more c.loop-last.invariant.2 c.loop-last.count read here off,
-      judged_more judged c.loop-last.count here (meant read.line) c.set.result c.depth.result w_is d_is room off.few,
+    let line = meant c.in_ok-line.line in
+    let steps = c.in-Some.ensures.steps in
+    let taken = rw c.in_ok-field.was at steps.0.2 in
+    let done = c.loop-before.invariant.0 in
+    let judged = c.loop-before.invariant.3 in
+    let here : length done ≡ c.in-Some.before = c.loop-before.invariant.1 ∙ sym steps.1 in
+    let at = (goal.at.loop-before-preserved g c).In_ok-line in
+    let w_is : c.set.result ≡ word (count m) (line_holds m (sets_of m done) line) =
+    c.set.ensures (sets_of m done) (rw sub-zero (words_done judged c.in-Some.before here)) in
+    let d_is : c.depth.result ≡ line_depth (depths_of done) line =
+    c.depth.ensures ∙ ap (λ ds. line_depth ds line) (rw sub-zero (depths_done judged c.in-Some.before here)) in (
+      done ++ line ∷ [],
+      omega (arith, length_push done line, here, steps.1, steps.2),
+      rw taken.1 (read_more c.loop-before.invariant.2 c.in-Some.before here _ _ taken.2 line (rw taken.0 at c.in_ok-line.ensures)),
+      judged_more judged c.in-Some.before here line c.set.result c.depth.result w_is d_is (room g at) (few g at),
     )
 
 pub shape_of-words : goal.shape_of-words
-shape_of-words g c = c.loop-last.invariant.3.size
+shape_of-words g c = c.loop-before.invariant.3.size
 
 pub returns : goal.returns
 returns g c ls h =
     let m : Model = g.S.Source.meaning c.args.source.now in
-    let none = eqb-true (length c.loop-last.rest.now) 0 (sym c.loop-last-test.ensures) in
-    let same : c.loop-last.invariant.0 ≡ ls = same_ok (sym (read_all c.loop-last.invariant.2 none) ∙ h) in (
-      ap Ok (c.loop-last.invariant.3.told ∙ ap (verdict m) same),
-      c.loop-last.invariant.3.in_front ∙ ap (λ done. words_after m (Ok done) c.args.words.now) same,
+    let same : c.loop-before.invariant.0 ≡ ls = same_ok (sym (read_all c.loop-before.invariant.2 c.in-None.ensures.steps.0) ∙ h) in (
+      ap Ok (c.loop-before.invariant.3.told ∙ ap (verdict m) same),
+      c.loop-before.invariant.3.in_front ∙ ap (λ done. words_after m (Ok done) c.args.words.now) same,
     )

@@ -5,10 +5,8 @@ use Rattle.logic.proofs.Judging.{JudgedTo}
 use Rattle.logic.proofs.Progress.{ReadTo}
 use Rattle.logic.proofs.judge.evaluate.Given as goal
 
-abbrev pub invariant-loop-last : goal.invariant-loop-last
-invariant-loop-last g l =
-    (done : List Line) × (length done ≡ l.count) × ReadTo l.bytes done l.place l.rest
+abbrev pub invariant-loop-before : goal.invariant-loop-before
+invariant-loop-before g l =
+    let left = l.before-iterator.iter in
+    (done : List Line) × (length done ≡ l.before-iterator.count) × ReadTo l.bytes done left.place left.rest.now
     × JudgedTo (g.S.Source.meaning l.source) l.initial.words done l.words l.depths l.last
-
-abbrev pub decreases-loop-last : goal.decreases-loop-last
-decreases-loop-last g l = length l.rest
