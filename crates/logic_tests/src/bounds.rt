@@ -1,4 +1,5 @@
-use crate::verdicts::in_coins;
+use crate::refusals::refused_over;
+use crate::verdicts::judged;
 use fields::fault::FileFault;
 use logic::fault::{JudgeFault, Verdict};
 use logic::judge::judge;
@@ -17,16 +18,11 @@ fn at_least(k: u32, m: u32) -> [u8; 18] {
 }
 
 fn holds_in(rt: &impl Abort, k: u32, m: u32, set: u64) -> Result<(), Fail> {
-    assert_eq!(rt;
-        in_coins(rt, &at_least(k, m), &mut [0; 2])?,
-        Verdict { set, depth: 2 }
-    );
-    Ok(())
+    judged(rt, &at_least(k, m), &mut [0; 2], Verdict { set, depth: 2 })
 }
 
-fn refused(rt: &impl Abort, k: u32, m: u32) {
-    let outcome = judge(&Ladder::new(2, 1, 1, 1), &at_least(k, m), &mut [0; 2]);
-    assert_eq!(rt; outcome, Err(JudgeFault::File(FileFault::Number(4))));
+fn refused(rt: &impl Abort, k: u32, m: u32) -> Result<(), Fail> {
+    refused_over(rt, &at_least(k, m), [0; 2], 4, 4)
 }
 
 // 1 of 2 goes there from state 0, and 1 of 3 from state 2.
@@ -44,13 +40,13 @@ fn shares_at_their_edges(rt: HostRuntime) -> Result<(), Fail> {
 }
 
 #[test]
-fn shares_outside_their_range(rt: HostRuntime) {
-    refused(&rt, 0, 0);
-    refused(&rt, 1, 0);
-    refused(&rt, 2, 1);
-    refused(&rt, 1_000_000_000, 999_999_999);
-    refused(&rt, 0, 1_000_000_001);
-    refused(&rt, u32::MAX, u32::MAX);
+fn shares_outside_their_range(rt: HostRuntime) -> Result<(), Fail> {
+    refused(&rt, 0, 0)?;
+    refused(&rt, 1, 0)?;
+    refused(&rt, 2, 1)?;
+    refused(&rt, 1_000_000_000, 999_999_999)?;
+    refused(&rt, 0, 1_000_000_001)?;
+    refused(&rt, u32::MAX, u32::MAX)
 }
 
 #[test]

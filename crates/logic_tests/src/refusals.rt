@@ -10,16 +10,26 @@ fn small() -> Ladder {
     Ladder::new(2, 1, 1, 1)
 }
 
-/// Sees a sentence refused, with its number and place, and filled words as they were.
-fn refused(rt: &impl Abort, sentence: &[u8], number: u8, place: usize) -> Result<(), Fail> {
-    let mut words = [9; 4];
-    let Err(fault) = judge(&small(), sentence, &mut words) else {
+/// Sees a sentence refused, with its number and place, and the words as they were.
+pub(crate) fn refused_over<const N: usize>(
+    rt: &impl Abort,
+    sentence: &[u8],
+    words: [u64; N],
+    number: u8,
+    place: usize,
+) -> Result<(), Fail> {
+    let mut after = words;
+    let Err(fault) = judge(&small(), sentence, &mut after) else {
         return Err(Fail::new("judged"));
     };
     assert_eq!(rt; fault.number(), number);
     assert_eq!(rt; fault.place(), Some(place));
-    assert_eq!(rt; words, [9; 4]);
+    assert_eq!(rt; after, words);
     Ok(())
+}
+
+fn refused(rt: &impl Abort, sentence: &[u8], number: u8, place: usize) -> Result<(), Fail> {
+    refused_over(rt, sentence, [9; 4], number, place)
 }
 
 #[test]

@@ -8,25 +8,30 @@ use std::test::Fail;
 use table::table::Table;
 
 /// States 0 to 3: 0 goes by action 1 with weights 1, 1 to 0, 1, and 2 with weights 1, 2 to 2, 3.
-pub(crate) const TWO_COINS: [u8; 26] = [
+const TWO_COINS: [u8; 26] = [
     0x01, 0, 1, 4, 0x02, 0, 8, 0, 1, 0, 0, 1, 1, 0, 1, 0x02, 0, 8, 2, 1, 2, 0, 1, 3, 0, 2,
 ];
 
 /// Judges a sentence in the two coins, over words that are all filled.
-pub(crate) fn in_coins(
-    rt: &impl Abort,
-    sentence: &[u8],
-    words: &mut [u64],
-) -> Result<Verdict, JudgeFault> {
+fn in_coins(rt: &impl Abort, sentence: &[u8], words: &mut [u64]) -> Result<Verdict, JudgeFault> {
     let mut coins = Table::new();
     assert!(rt; coins.read(&TWO_COINS).is_ok());
     judge(&coins, sentence, words)
 }
 
-fn holds_in(rt: &impl Abort, sentence: &[u8], set: u64, depth: u16) -> Result<(), Fail> {
-    let mut words = [u64::MAX; 8];
-    assert_eq!(rt; in_coins(rt, sentence, &mut words)?, Verdict { set, depth });
+/// Sees what a sentence is judged in the two coins, over some words.
+pub(crate) fn judged(
+    rt: &impl Abort,
+    sentence: &[u8],
+    words: &mut [u64],
+    verdict: Verdict,
+) -> Result<(), Fail> {
+    assert_eq!(rt; in_coins(rt, sentence, words)?, verdict);
     Ok(())
+}
+
+fn holds_in(rt: &impl Abort, sentence: &[u8], set: u64, depth: u16) -> Result<(), Fail> {
+    judged(rt, sentence, &mut [u64::MAX; 8], Verdict { set, depth })
 }
 
 #[test]

@@ -1,3 +1,4 @@
+use crate::absent::answers_0;
 use model::source::Source;
 use sources::ladder::Ladder;
 
@@ -22,12 +23,8 @@ fn a_ladder_of_four(rt: HostRuntime) {
 fn what_does_not_exist_answers_0(rt: HostRuntime) {
     let ladder = Ladder::new(4, 7, 3, 2);
     for far in [4, usize::MAX] {
-        assert_eq!(rt; ladder.steps(far), 0);
-        assert_eq!(rt; ladder.action(far, 0), 0);
-        assert_eq!(rt; ladder.total(0, far), 0);
+        answers_0(&rt, &ladder, 0, far);
         assert_eq!(rt; ladder.branches(3, far), 0);
-        assert_eq!(rt; ladder.target(0, 0, far), 0);
-        assert_eq!(rt; ladder.weight(0, 0, far), 0);
     }
     assert_eq!(rt; ladder.action(0, 1), 0);
     assert_eq!(rt; ladder.target(3, 0, 1), 0);

@@ -1,3 +1,4 @@
+use crate::absent::answers_0;
 use crate::files::{add_step, full_file};
 use model::source::Source;
 use std::test::Fail;
@@ -39,12 +40,7 @@ fn what_does_not_exist_answers_0(rt: HostRuntime) {
     let file = [0x01, 0, 1, 2, 0x02, 0, 5, 1, 7, 1, 0, 9];
     assert!(rt; table.read(&file).is_ok());
     for far in [2, 64, usize::MAX] {
-        assert_eq!(rt; table.steps(far), 0);
-        assert_eq!(rt; table.action(far, 0), 0);
-        assert_eq!(rt; table.total(1, far), 0);
-        assert_eq!(rt; table.branches(1, far), 0);
-        assert_eq!(rt; table.target(1, 0, far), 0);
-        assert_eq!(rt; table.weight(1, 0, far), 0);
+        answers_0(&rt, &table, 1, far);
     }
     assert_eq!(rt; table.action(1, 1), 0);
     assert_eq!(rt; table.weight(1, 0, 1), 0);

@@ -1,3 +1,4 @@
+use crate::absent::answers_0;
 use model::source::Source;
 use sources::disjoint::Union;
 use sources::ladder::Ladder;
@@ -34,12 +35,7 @@ fn what_does_not_exist_answers_0(rt: HostRuntime) {
     assert_eq!(rt; both.target(2, 0, 2), 0);
     assert_eq!(rt; both.target(4, 0, 0), 0);
     for far in [5, 64, usize::MAX] {
-        assert_eq!(rt; both.steps(far), 0);
-        assert_eq!(rt; both.action(far, 0), 0);
-        assert_eq!(rt; both.total(2, far), 0);
-        assert_eq!(rt; both.branches(2, far), 0);
-        assert_eq!(rt; both.target(2, 0, far), 0);
-        assert_eq!(rt; both.weight(2, 0, far), 0);
+        answers_0(&rt, &both, 2, far);
     }
 }
 
