@@ -26,7 +26,7 @@ module _ (a b : Model) where
   abbrev both : Model
   both = record { states = rows; p = max a.p b.p; z = max a.z b.z }
 
-  both_is_lawful : union_void na nb ≡ false → Lawful a → Lawful b → Lawful both
+  both_is_lawful : union_void a b ≡ false → Lawful a → Lawful b → Lawful both
   both_is_lawful v la lb =
       let few : na + nb ≤ 64 = grind (arith, nat_tests) in
       let some : 0 < na = grind (arith, nat_tests) in
@@ -45,7 +45,7 @@ module _ (a b : Model) where
 
   pub union_is_lawful : Lawful a → Lawful b → Lawful (union a b)
   union_is_lawful la lb =
-      elim (cases_Bool (union_void na nb)) [
-        | inl v ↦ subst Lawful (sym (cond-true (union_void na nb) void both v)) void_is_lawful
-        | inr v ↦ subst Lawful (sym (cond-false (union_void na nb) void both v)) (both_is_lawful v la lb)
+      elim (cases_Bool (union_void a b)) [
+        | inl v ↦ subst Lawful (sym (cond-true (union_void a b) void both v)) void_is_lawful
+        | inr v ↦ subst Lawful (sym (cond-false (union_void a b) void both v)) (both_is_lawful v la lb)
       ]
