@@ -27,6 +27,14 @@ ladder n action ok miss =
 abbrev pub ladder_of : Ladder → Model
 ladder_of l = ladder l.states l.action l.ok l.miss
 
+-- whether a ladder is not void
+abbrev pub fits : Ladder → Bool
+fits l = ladder_fits l.states l.action l.ok l.miss
+
+-- whether state s of a ladder has step i: a state but the last has step 0 alone
+abbrev pub has : Ladder → ℕ → ℕ → Bool
+has l s i = fits l && nat_lt (s + 1) l.states && i == 0
+
 -- a step of which each target is k further on
 abbrev pub moved_branch : ℕ → Branch → Branch
 moved_branch k b = record { target = k + b.target; weight = b.weight }

@@ -12,7 +12,7 @@ use Rattle.model.specs.declared.Branch.{Branch}
 use Rattle.model.proofs.Elements.{all_counting, get_or_push_default}
 use Rattle.model.proofs.Laws.{Lawful, LawfulRow, LawfulStep, row_among_more, void_is_lawful}
 use Rattle.sources.specs.declared.ladder.Ladder.{Ladder}
-use Rattle.sources.specs.Kinds.{ladder_fits, ladder_of, rung}
+use Rattle.sources.specs.Kinds.{fits, has, ladder_of, rung}
 
 -- of a row of one step or none
 get_or_one_or_none : (t : Bool) (a : Step) (i : ℕ) → slice_index_or (cond t (a ∷ []) []) i no_step ≡ cond (t && i == 0) a no_step
@@ -27,9 +27,6 @@ length_one_or_none true a = refl
 module _ (l : Ladder) where
   abbrev n : ℕ
   n = l.states
-
-  abbrev fits : Bool
-  fits = ladder_fits n l.action l.ok l.miss
 
   abbrev step : ℕ → Step
   step = rung l.action l.ok l.miss
@@ -48,55 +45,51 @@ module _ (l : Ladder) where
         | inr h ↦ cond_above (s + 1) n _ _ _ h (get_or_past rungs s [] (omega (arith, length_rungs)))
       ]
 
-  ladder_steps : (s : ℕ) → steps_of (ladder_of l) s ≡ cond (fits && nat_lt (s + 1) n) (step s ∷ []) []
+  ladder_steps : (s : ℕ) → steps_of (ladder_of l) s ≡ cond (fits l && nat_lt (s + 1) n) (step s ∷ []) []
   ladder_steps s =
-      elim (cases_Bool fits) [
+      elim (cases_Bool (fits l)) [
         | inl e ↦ rw e (row_at s)
         | inr e ↦ rw e
       ]
 
-  -- what `has` answers of a state and a step
-  abbrev has : ℕ → ℕ → Bool
-  has s i = fits && nat_lt (s + 1) n && i == 0
-
-  step_by_has : (s i : ℕ) (r : Bool) → r ≡ has s i → step_at (ladder_of l) s i ≡ cond r (step s) no_step
+  step_by_has : (s i : ℕ) (r : Bool) → r ≡ has l s i → step_at (ladder_of l) s i ≡ cond r (step s) no_step
   step_by_has s i r e =
-      ap (λ row. get_or row i no_step) (ladder_steps s) ∙ get_or_one_or_none (fits && nat_lt (s + 1) n) (step s) i ∙ ap (λ b. cond b (step s) no_step) (sym e)
+      ap (λ row. get_or row i no_step) (ladder_steps s) ∙ get_or_one_or_none (fits l && nat_lt (s + 1) n) (step s) i ∙ ap (λ b. cond b (step s) no_step) (sym e)
 
-  pub answer_by_has : (ask : Step → ℕ) (s i : ℕ) (r : Bool) → r ≡ has s i → ask (step_at (ladder_of l) s i) ≡ ask (cond r (step s) no_step)
+  pub answer_by_has : (ask : Step → ℕ) (s i : ℕ) (r : Bool) → r ≡ has l s i → ask (step_at (ladder_of l) s i) ≡ ask (cond r (step s) no_step)
   answer_by_has ask s i r e = ap ask (step_by_has s i r e)
 
   -- of branch j, where it is k
-  pub branch_by_has : (ask : Branch → ℕ) (r : Bool) (k s i j : ℕ) → r ≡ has s i → j ≡ k
+  pub branch_by_has : (ask : Branch → ℕ) (r : Bool) (k s i j : ℕ) → r ≡ has l s i → j ≡ k
       → ask (branch_at (ladder_of l) s i j) ≡ ask (slice_index_or (cond r (step s) no_step).branches k no_branch)
   branch_by_has ask r k s i j e same =
       ap (λ m. ask (branch_at (ladder_of l) s i m)) same ∙ answer_by_has (λ a. ask (slice_index_or a.branches k no_branch)) s i r e
 
   pub no_third_branch : (ask : Branch → ℕ) (s i j : ℕ) → 2 ≤ j → ask (branch_at (ladder_of l) s i j) ≡ ask no_branch
   no_third_branch ask s i j h =
-      branch_by_has ask (has s i) j s i j refl refl
-      ∙ cond_both (has s i) (step s) no_step (λ a. ask (slice_index_or a.branches j no_branch) ≡ ask no_branch)
+      branch_by_has ask (has l s i) j s i j refl refl
+      ∙ cond_both (has l s i) (step s) no_step (λ a. ask (slice_index_or a.branches j no_branch) ≡ ask no_branch)
       (λ _. ap ask (get_or_past (step s).branches j no_branch (omega arith))) (λ _. refl)
 
-  pub steps_by_has : (s : ℕ) (r : Bool) → r ≡ has s 0 → length (steps_of (ladder_of l) s) ≡ cond r 1 0
+  pub steps_by_has : (s : ℕ) (r : Bool) → r ≡ has l s 0 → length (steps_of (ladder_of l) s) ≡ cond r 1 0
   steps_by_has s r e =
-      ap length (ladder_steps s) ∙ length_one_or_none (fits && nat_lt (s + 1) n) (step s) ∙ ap (λ b. cond b 1 0) (sym e)
+      ap length (ladder_steps s) ∙ length_one_or_none (fits l && nat_lt (s + 1) n) (step s) ∙ ap (λ b. cond b 1 0) (sym e)
 
   length_rows : 1 ≤ n → length (rungs ++ [] ∷ []) ≡ n
   length_rows h = omega (arith, length_push rungs [], length_rungs)
 
-  pub count_by_fits : (r : Bool) → r ≡ fits → count (ladder_of l) ≡ cond r n 0
+  pub count_by_fits : (r : Bool) → r ≡ fits l → count (ladder_of l) ≡ cond r n 0
   count_by_fits true e = let h : 1 ≤ n = grind (arith, nat_tests) in rw (← e) (length_rows h)
   count_by_fits false e = rw (← e)
 
   -- the two measures are those of the first state
   pub most_steps_is : (ladder_of l).p ≡ length (steps_of (ladder_of l) 0)
-  most_steps_is = let e = steps_by_has 0 (has 0 0) refl in grind (arith, nat_tests)
+  most_steps_is = let e = steps_by_has 0 (has l 0 0) refl in grind (arith, nat_tests)
 
   pub most_total_is : (ladder_of l).z ≡ total (step_at (ladder_of l) 0 0)
   most_total_is =
-      let rows = answer_by_has total 0 0 (has 0 0) refl in
-      elim (cases_Bool (has 0 0)) [
+      let rows = answer_by_has total 0 0 (has l 0 0) refl in
+      elim (cases_Bool (has l 0 0)) [
         | inl e ↦ let sum = rw e at rows in grind (arith, nat_tests)
         | inr e ↦ let none = rw e at rows in grind (arith, nat_tests)
       ]
@@ -104,7 +97,7 @@ module _ (l : Ladder) where
   abbrev whole : Model
   whole = record { states = rungs ++ [] ∷ []; p = cond (n == 1) 0 1; z = cond (n == 1) 0 (l.ok + l.miss) }
 
-  rung_is_lawful : fits ≡ true → (i : ℕ) → i + 1 < n → LawfulStep n (l.ok + l.miss) (step i)
+  rung_is_lawful : fits l ≡ true → (i : ℕ) → i + 1 < n → LawfulStep n (l.ok + l.miss) (step i)
   rung_is_lawful e i h =
       let up : 1 ≤ l.ok = grind (arith, nat_tests) in
       let down : 1 ≤ l.miss = grind (arith, nat_tests) in
@@ -116,13 +109,13 @@ module _ (l : Ladder) where
         light = omega arith;
       }
 
-  row_is_lawful : fits ≡ true → (i : ℕ) → i + 1 < n → LawfulRow (count whole) whole.p whole.z (step i ∷ [])
+  row_is_lawful : fits l ≡ true → (i : ℕ) → i + 1 < n → LawfulRow (count whole) whole.p whole.z (step i ∷ [])
   row_is_lawful e i h =
       let many : nat_eq n 1 ≡ false = ne_eqb n 1 (λ one. omega arith) in
       rw many (row_among_more n (count whole) 1 1 (l.ok + l.miss) (l.ok + l.miss) (step i ∷ []) (omega (arith, length_rows (omega arith)))
       (omega arith) (omega arith) (omega arith, (rung_is_lawful e i h, tt)))
 
-  whole_is_lawful : fits ≡ true → Lawful whole
+  whole_is_lawful : fits l ≡ true → Lawful whole
   whole_is_lawful e =
       let some : 1 ≤ n = grind (arith, nat_tests) in
       let few : n ≤ 64 = grind (arith, nat_tests) in
@@ -139,7 +132,7 @@ module _ (l : Ladder) where
 
   pub ladder_is_lawful : Lawful (ladder_of l)
   ladder_is_lawful =
-      elim (cases_Bool fits) [
-        | inl e ↦ subst Lawful (sym (cond-true fits whole void e)) (whole_is_lawful e)
-        | inr e ↦ subst Lawful (sym (cond-false fits whole void e)) void_is_lawful
+      elim (cases_Bool (fits l)) [
+        | inl e ↦ subst Lawful (sym (cond-true (fits l) whole void e)) (whole_is_lawful e)
+        | inr e ↦ subst Lawful (sym (cond-false (fits l) whole void e)) void_is_lawful
       ]

@@ -1,10 +1,14 @@
 // The ladder: a retry scheme in which each miss leads one state further and each success back to the start.
-ghost use Rattle.std.specs.Prelude.{◌≡◌, ◌+◌, ◌&&◌, ◌==◌, nat_lt};
-ghost use Rattle.sources.specs.Kinds.{ladder, ladder_fits, ladder_of};
+ghost use Rattle.std.specs.Prelude.{◌≡◌};
+ghost use Rattle.sources.specs.Kinds.{fits, has, ladder, ladder_of};
 ghost use Rattle.model.proofs.Laws.{lawful_from_parts};
 ghost use Rattle.sources.specs.Ladders.{ladder_is_lawful};
 
 use model::source::Source;
+use model::{ACTIONS, STATES};
+
+/// The largest total of a ladder's step.
+const TOTAL: u32 = 30_000;
 
 /// A ladder of states: each but the last has one step, with weight `ok` to state 0 and weight `miss` to the next state.
 #[derive(Drop)]
@@ -29,20 +33,23 @@ impl Ladder {
         }
     }
 
+    /// Whether the ladder is not void.
     fn fits(&self) -> bool
-        ensures { result ≡ ladder_fits self.now.states self.now.action self.now.ok self.now.miss }
+        ensures { result ≡ fits self.now }
     {
-        let sized = 1 <= self.states && self.states <= 64 && self.action < 32;
-        sized
+        (1..=STATES).contains(&self.states)
+            && self.action < ACTIONS
             && 1 <= self.ok
             && 1 <= self.miss
-            && self.ok <= 30_000
-            && self.miss <= 30_000 - self.ok
+            && self
+                .ok
+                .checked_add(self.miss)
+                .is_some_and(|total| total <= TOTAL)
     }
 
     /// Whether the state has this step: a ladder's states have step 0 alone, and the last has none.
     fn has(&self, state: usize, step: usize) -> bool
-        ensures { result ≡ (ladder_fits self.now.states self.now.action self.now.ok self.now.miss && nat_lt (state + 1) self.now.states && step == 0) }
+        ensures { result ≡ has self.now state step }
     {
         self.fits() && state < self.states - 1 && step == 0
     }
