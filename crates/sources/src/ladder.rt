@@ -60,22 +60,27 @@ impl Source for Ladder {
 
     ghost obeys = { λ x. lawful_from_parts _ (ladder_is_lawful x) };
 
+    #[tactic(auto, using(crate::specs::Ladders::count_is))]
     fn states(&self) -> usize {
         if self.fits() { self.states } else { 0 }
     }
 
+    #[tactic(auto, using(crate::specs::Ladders::most_steps_is))]
     fn most_steps(&self) -> usize {
         self.steps(0)
     }
 
+    #[tactic(auto, using(crate::specs::Ladders::most_total_is))]
     fn most_total(&self) -> u32 {
         self.total(0, 0)
     }
 
+    #[tactic(auto, using(crate::specs::Ladders::steps_are))]
     fn steps(&self, state: usize) -> usize {
         if self.has(state, 0) { 1 } else { 0 }
     }
 
+    #[tactic(auto, using(crate::specs::Ladders::action_is))]
     fn action(&self, state: usize, step: usize) -> u8 {
         if self.has(state, step) {
             self.action
@@ -84,6 +89,7 @@ impl Source for Ladder {
         }
     }
 
+    #[tactic(auto, using(crate::specs::Ladders::total_is))]
     fn total(&self, state: usize, step: usize) -> u32 {
         if self.has(state, step) {
             self.ok + self.miss
@@ -92,10 +98,12 @@ impl Source for Ladder {
         }
     }
 
+    #[tactic(auto, using(crate::specs::Ladders::branches_are))]
     fn branches(&self, state: usize, step: usize) -> usize {
         if self.has(state, step) { 2 } else { 0 }
     }
 
+    #[tactic(auto, using(crate::specs::Ladders::target_is))]
     fn target(&self, state: usize, step: usize, branch: usize) -> usize {
         if self.has(state, step) && branch == 1 {
             state + 1
@@ -104,6 +112,7 @@ impl Source for Ladder {
         }
     }
 
+    #[tactic(auto, using(crate::specs::Ladders::weight_is))]
     fn weight(&self, state: usize, step: usize, branch: usize) -> u32 {
         if !self.has(state, step) {
             return 0;
