@@ -1,9 +1,9 @@
 -- What a union answers, by the side on which a state lies. Assumes nothing.
 use Rattle.std.proofs.Common.{◌≡◌, ℕ, ◌+◌, ◌-◌, ltb, cond, List, [], map, get_or, Option, None, Some, sym, refl, ap, ◌∙◌, inl, inr, arith}
 use Rattle.std.proofs.lemmas.List.{get_or_append_left, get_or-append_right, get_or_past}
+use Rattle.std.proofs.Math.ListN.{get_or-map}
 use Rattle.std.proofs.lemmas.Bool.{cases_Bool, cases_lt, cond_above, cond_below}
 use Rattle.model.specs.Model.{Model, Step, count, no_step, step_at, steps_of}
-use Rattle.model.proofs.Elements.{get_or_map_default}
 use Rattle.sources.specs.declared.disjoint.Side.{Side}
 use Rattle.sources.specs.declared.disjoint.Side.TheVariants.{Left, Right}
 use Rattle.sources.specs.Kinds.{moved, side_of, union, union_void}
@@ -28,7 +28,7 @@ module _ (a b : Model) where
         | inl l ↦ get_or_append_left a.states _ [] s l ∙ ap steps_on (cond_below s na (Some (Left s)) _ l)
         | inr past ↦ elim (cases_lt s (na + nb)) [
           | inl l ↦
-              get_or-append_right a.states _ na s [] refl past ∙ get_or_map_default (map (moved na)) b.states (s - na) []
+              get_or-append_right a.states _ na s [] refl past ∙ get_or-map (map (moved na)) b.states (s - na) []
               ∙ ap steps_on (cond_above s na _ _ _ past (cond_below s (na + nb) (Some (Right (s - na))) None l))
           | inr l ↦
               get_or_past (rows a b) s [] (omega (arith, length_rows a b))
@@ -66,4 +66,4 @@ module _ (a b : Model) where
         → r ≡ ask (step_at (union a b) s i)
     step_by_side i ask read same =
         answer_by_side (λ row. ask (get_or row i no_step)) (λ row. read (get_or row i no_step))
-        (λ row. ap ask (get_or_map_default (moved na) row i no_step) ∙ same (get_or row i no_step))
+        (λ row. ap ask (get_or-map (moved na) row i no_step) ∙ same (get_or row i no_step))

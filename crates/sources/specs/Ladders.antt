@@ -18,7 +18,7 @@ use Rattle.sources.specs.Kinds.{fits, has, ladder_of, rung}
 get_or_one_or_none : (t : Bool) (a : Step) (i : ℕ) → slice_index_or (cond t (a ∷ []) []) i no_step ≡ cond (t && i == 0) a no_step
 get_or_one_or_none false a i = refl
 get_or_one_or_none true a zero = refl
-get_or_one_or_none true a (suc i) = sym (cond-false (suc i == 0) a no_step (ne_eqb (suc i) 0 (λ e. omega arith)))
+get_or_one_or_none true a (suc i) = grind (arith, nat_tests)
 
 length_one_or_none : (t : Bool) (a : Step) → length (cond t (a ∷ []) []) ≡ cond (t && true) 1 0
 length_one_or_none false a = refl

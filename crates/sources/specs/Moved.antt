@@ -1,8 +1,9 @@
 -- A step whose targets are k further on: its parts, and that it is lawful among k more states. Assumes nothing.
-use Rattle.std.specs.Prelude.{◌≡◌, ℕ, zero, suc, ◌+◌, ◌≤◌, true, cond, List, [], ◌∷◌, map, length, fold, nat_le, nat_lt, slice_index_or, refl}
+use Rattle.std.specs.Prelude.{◌≡◌, ℕ, zero, suc, ◌+◌, ◌≤◌, true, cond, List, [], ◌∷◌, map, length, nat_le, nat_lt, slice_index_or, refl}
 use Rattle.std.proofs.Common.{inl, inr, ap, ◌∙◌, arith}
 use Rattle.std.proofs.ByRecursion.{All-map, All-weaker}
 use Rattle.std.proofs.lemmas.List.{get_or-map, get_or_past, length-map}
+use Rattle.std.proofs.lemmas.List.Folds.{fold-map}
 use Rattle.std.proofs.lemmas.Bool.{and_from, and_parts, cases_lt, cond_above, cond_below, le-leb, leb-true}
 use Rattle.model.specs.Model.{Step, no_branch, rising, total}
 use Rattle.model.specs.declared.Branch.{Branch}
@@ -14,11 +15,7 @@ pub length_moved : (k : ℕ) (a : Step) → length (moved k a).branches ≡ leng
 length_moved k a = length-map a.branches (moved_branch k)
 
 pub total_moved : (k : ℕ) (a : Step) → total (moved k a) ≡ total a
-total_moved k a = from 0 a.branches
-  where
-    from : (n : ℕ) (bs : List Branch) → fold (λ m b. m + b.weight) n (map (moved_branch k) bs) ≡ fold (λ m b. m + b.weight) n bs
-    from n [] = refl
-    from n (b ∷ bs) = from (n + b.weight) bs
+total_moved k a = fold-map _ (moved_branch k) 0 a.branches
 
 -- what is asked of branch j of a step
 abbrev pub weight_at : ℕ → Step → ℕ
