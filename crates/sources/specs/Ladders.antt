@@ -1,13 +1,13 @@
 -- What a ladder answers about its steps, by the test whether it has one, and that it is lawful. Assumes nothing.
-use Rattle.std.specs.Prelude.{◌≡◌, ℕ, zero, suc, ◌+◌, ◌-◌, ◌<◌, ◌≤◌, Bool, true, false, cond, ◌&&◌, List, [], ◌∷◌, ◌++◌, map, length, get_or, ◌==◌, nat_eq, nat_le, nat_lt, slice_index_or, refl}
-use Rattle.std.proofs.Common.{inl, inr, ap, subst, sym, ◌∙◌, arith, zero-add}
+use Rattle.std.specs.Prelude.{◌≡◌, ℕ, zero, suc, ◌+◌, ◌-◌, ◌<◌, ◌≤◌, Bool, true, false, cond, ◌&&◌, List, [], ◌∷◌, ◌++◌, map, length, get_or, ◌==◌, nat_eq, nat_lt, slice_index_or, refl}
+use Rattle.std.proofs.Common.{inl, inr, ap, ◌∙◌, arith, zero-add}
 use Rattle.std.specs.List.{range_with_len}
 use Rattle.std.proofs.lemmas.List.FromFn.{get_or-map-range_with_len, length-map-range_with_len}
 use Rattle.std.proofs.ByRecursion.{All-map, All-push, All-weaker}
 use Rattle.std.proofs.lemmas.List.{get_or_past, length_push}
-use Rattle.std.proofs.lemmas.Bool.{and_from, cases_Bool, cases_lt, cond_above, cond_below, cond-false, cond-true, le-leb, ne_eqb}
+use Rattle.std.proofs.lemmas.Bool.{cases_Bool, cases_lt, cond_above, cond_below, ne_eqb}
 use Rattle.std.proofs.lemmas.Bool.Decides.{nat_tests}
-use Rattle.model.specs.Model.{Model, Step, branch_at, count, no_branch, no_step, step_at, steps_of, total, void}
+use Rattle.model.specs.Model.{Model, Step, branch_at, count, no_branch, no_step, step_at, steps_of, total}
 use Rattle.model.specs.declared.Branch.{Branch}
 use Rattle.model.proofs.Elements.{all_counting, get_or_push_default}
 use Rattle.model.proofs.Laws.{Lawful, LawfulRow, LawfulStep, row_among_more, void_is_lawful}
@@ -121,7 +121,7 @@ module _ (l : Ladder) where
       record {
         known = grind (arith, nat_tests);
         some = omega arith;
-        rises = and_from (nat_le 1 (i + 1)) true (le-leb 1 (i + 1) (omega arith)) refl;
+        rises = grind (arith, nat_tests);
         sound = ((omega arith, up), ((h, down), tt));
         light = omega arith;
       }
@@ -150,6 +150,6 @@ module _ (l : Ladder) where
   pub ladder_is_lawful : Lawful (ladder_of l)
   ladder_is_lawful =
       elim (cases_Bool (fits l)) [
-        | inl e ↦ subst Lawful (sym (cond-true (fits l) whole void e)) (whole_is_lawful e)
-        | inr e ↦ subst Lawful (sym (cond-false (fits l) whole void e)) void_is_lawful
+        | inl e ↦ rw e (whole_is_lawful e)
+        | inr e ↦ rw e void_is_lawful
       ]

@@ -1,10 +1,11 @@
 -- A step whose targets are k further on: its parts, and that it is lawful among k more states. Assumes nothing.
-use Rattle.std.specs.Prelude.{◌≡◌, ℕ, zero, suc, ◌+◌, ◌≤◌, true, cond, List, [], ◌∷◌, map, length, nat_le, nat_lt, slice_index_or, refl}
+use Rattle.std.specs.Prelude.{◌≡◌, ℕ, zero, suc, ◌+◌, ◌≤◌, true, cond, List, [], ◌∷◌, map, length, nat_lt, slice_index_or, refl}
 use Rattle.std.proofs.Common.{inl, inr, ap, ◌∙◌, arith}
 use Rattle.std.proofs.ByRecursion.{All-map, All-weaker}
 use Rattle.std.proofs.lemmas.List.{get_or-map, get_or_past, length-map}
 use Rattle.std.proofs.lemmas.List.Folds.{fold-map}
-use Rattle.std.proofs.lemmas.Bool.{and_from, and_parts, cases_lt, cond_above, cond_below, le-leb, leb-true}
+use Rattle.std.proofs.lemmas.Bool.{cases_lt, cond_above, cond_below}
+use Rattle.std.proofs.lemmas.Bool.Decides.{nat_tests}
 use Rattle.model.specs.Model.{Step, no_branch, rising, total}
 use Rattle.model.specs.declared.Branch.{Branch}
 use Rattle.model.proofs.Laws.{LawfulRow}
@@ -45,9 +46,8 @@ module _ (k : ℕ) where
   rising_moved : (low from : ℕ) (bs : List Branch) → from ≤ k + low → rising low bs ≡ true → rising from (map (moved_branch k) bs) ≡ true
   rising_moved low from [] l h = refl
   rising_moved low from (b ∷ bs) l h =
-      let r = and_parts (nat_le low b.target) (rising (b.target + 1) bs) h in
-      and_from (nat_le from (k + b.target)) _ (le-leb from (k + b.target) (omega (arith, leb-true low b.target r.0)))
-      (rising_moved (b.target + 1) (k + b.target + 1) bs (omega arith) r.1)
+      let rest = rising_moved (b.target + 1) (k + b.target + 1) bs (omega arith) (grind (arith, nat_tests)) in
+      grind (arith, nat_tests)
 
   pub row_moved : (n p z : ℕ) (row : List Step) → LawfulRow n p z row → LawfulRow (k + n) p z (map (moved k) row)
   row_moved n p z row r = (
