@@ -1,8 +1,9 @@
 -- The laws of a model one by one, out of the test and back into it, what keeps them, and what they bound. Assumes nothing.
-use Rattle.std.proofs.Common.{◌≡◌, ℕ, ◌<◌, ◌≤◌, Bool, true, ◌&&◌, ◌||◌, eqb, ltb, leb, ◌⊎◌, List, [], length, refl, inl, inr, arith}
+use Rattle.std.proofs.Common.{◌≡◌, ℕ, ◌<◌, ◌≤◌, Bool, true, ◌&&◌, leb, ◌⊎◌, List, [], length, refl, inl, inr, arith}
 use Rattle.std.specs.List.{AllByRecursion as All}
 use Rattle.std.proofs.ByRecursion.{All-weaker}
-use Rattle.std.proofs.lemmas.Bool.{and_from, and_parts, eq-eqb, eqb-true, le-leb, leb-true, lt-ltb, ltb-true, or_cases, or_left, or_right}
+use Rattle.std.proofs.lemmas.Bool.{cases_lt}
+use Rattle.std.proofs.lemmas.Bool.Decides.{nat_tests}
 use Rattle.model.specs.Lists.{all}
 use Rattle.model.specs.Model.{Model, Step, branch_at, count, lawful, lawful_step, no_branch, no_step, rising, sound_branch, step_at, steps_of, total, void}
 use Rattle.model.specs.declared.Branch.{Branch}
@@ -18,36 +19,19 @@ pub record LawfulStep (n z : ℕ) (a : Step) : Type 0 where
 
 pub step_parts : (n z : ℕ) (a : Step) → lawful_step n z a ≡ true → LawfulStep n z a
 step_parts n z a h =
-    let A : Bool = ltb a.action 32 in
-    let B : Bool = ltb 0 (length a.branches) in
-    let C : Bool = rising 0 a.branches in
-    let D : Bool = all (sound_branch n) a.branches in
-    let abcd = and_parts (A && B && C && D) (leb (total a) z) h in
-    let abc = and_parts (A && B && C) D abcd.0 in
-    let ab = and_parts (A && B) C abc.0 in
-    let a-b = and_parts A B ab.0 in
+    let each : all (sound_branch n) a.branches ≡ true = grind (arith, nat_tests) in
     record {
-      known = ltb-true a.action 32 a-b.0;
-      some = ltb-true 0 (length a.branches) a-b.1;
-      rises = ab.1;
-      sound = All-weaker _ _ (λ b e. let r = and_parts (ltb b.target n) (ltb 0 b.weight) e in
-          (ltb-true b.target n r.0, ltb-true 0 b.weight r.1))
-          a.branches (each_true (sound_branch n) a.branches abc.1);
-      light = leb-true (total a) z abcd.1;
+      known = grind (arith, nat_tests);
+      some = grind (arith, nat_tests);
+      rises = grind (arith, nat_tests);
+      sound = All-weaker _ _ (λ b e. (grind (arith, nat_tests), grind (arith, nat_tests))) a.branches (each_true (sound_branch n) a.branches each);
+      light = grind (arith, nat_tests);
     }
 
 pub step_from_parts : (n z : ℕ) (a : Step) → LawfulStep n z a → lawful_step n z a ≡ true
 step_from_parts n z a h =
-    let A : Bool = ltb a.action 32 in
-    let B : Bool = ltb 0 (length a.branches) in
-    let C : Bool = rising 0 a.branches in
-    let D : Bool = all (sound_branch n) a.branches in
-    let ab = and_from A B (lt-ltb a.action 32 h.known) (lt-ltb 0 (length a.branches) h.some) in
-    let abc = and_from (A && B) C ab h.rises in
-    let abcd = and_from (A && B && C) D abc (all_true (sound_branch n) a.branches
-    (All-weaker _ _ (λ b s. and_from (ltb b.target n) (ltb 0 b.weight) (lt-ltb b.target n s.0) (lt-ltb 0 b.weight s.1))
-    a.branches h.sound)) in
-    and_from (A && B && C && D) (leb (total a) z) abcd (le-leb (total a) z h.light)
+    let each = all_true (sound_branch n) a.branches (All-weaker _ _ (λ b s. grind (arith, nat_tests)) a.branches h.sound) in
+    grind (arith, nat_tests)
 
 -- a row of steps in a model of n states with the measures p and z
 abbrev pub LawfulRow : ℕ → ℕ → ℕ → List Step → Type 0
@@ -66,45 +50,30 @@ lawful_row m row = leb (length row) m.p && all (lawful_step (count m) m.z) row
 
 pub lawful_parts : (m : Model) → lawful m ≡ true → Lawful m
 lawful_parts m h =
-    let A : Bool = leb (count m) 64 in
-    let B : Bool = leb m.p 300 in
-    let C : Bool = leb m.z 1000000000 in
-    let none : Bool = eqb m.p 0 && eqb m.z 0 in
-    let D : Bool = ltb 0 (count m) || none in
-    let abcd = and_parts (A && B && C && D) (all (lawful_row m) m.states) h in
-    let abc = and_parts (A && B && C) D abcd.0 in
-    let ab = and_parts (A && B) C abc.0 in
-    let a-b = and_parts A B ab.0 in
+    let each : all (lawful_row m) m.states ≡ true = grind (arith, nat_tests) in
     record {
-      few = leb-true (count m) 64 a-b.0;
-      steps = leb-true m.p 300 a-b.1;
-      totals = leb-true m.z 1000000000 ab.1;
-      void = elim (or_cases (ltb 0 (count m)) none abc.1) [
-        | inl e ↦ inl (ltb-true 0 (count m) e)
-        | inr e ↦ let r = and_parts (eqb m.p 0) (eqb m.z 0) e in inr (eqb-true m.p 0 r.0, eqb-true m.z 0 r.1)
+      few = grind (arith, nat_tests);
+      steps = grind (arith, nat_tests);
+      totals = grind (arith, nat_tests);
+      void = elim (cases_lt 0 (count m)) [
+        | inl some ↦ inl some
+        | inr none ↦ inr (grind (arith, nat_tests), grind (arith, nat_tests))
       ];
-      rows = All-weaker _ _ (λ row e. let r = and_parts (leb (length row) m.p) (all (lawful_step (count m) m.z) row) e in
-          (leb-true (length row) m.p r.0, All-weaker _ _ (step_parts (count m) m.z) row (each_true (lawful_step (count m) m.z) row r.1)))
-          m.states (each_true (lawful_row m) m.states abcd.1);
+      rows = All-weaker _ _ (λ row e. (
+        grind (arith, nat_tests),
+        let steps : all (lawful_step (count m) m.z) row ≡ true = grind (arith, nat_tests) in
+            All-weaker _ _ (step_parts (count m) m.z) row (each_true (lawful_step (count m) m.z) row steps),
+      )) m.states (each_true (lawful_row m) m.states each);
     }
 
 pub lawful_from_parts : (m : Model) → Lawful m → lawful m ≡ true
 lawful_from_parts m h =
-    let A : Bool = leb (count m) 64 in
-    let B : Bool = leb m.p 300 in
-    let C : Bool = leb m.z 1000000000 in
-    let none : Bool = eqb m.p 0 && eqb m.z 0 in
-    let D : Bool = ltb 0 (count m) || none in
-    let ab = and_from A B (le-leb (count m) 64 h.few) (le-leb m.p 300 h.steps) in
-    let abc = and_from (A && B) C ab (le-leb m.z 1000000000 h.totals) in
-    let d : D ≡ true = elim h.void [
-      | inl e ↦ or_left (ltb 0 (count m)) none (lt-ltb 0 (count m) e)
-      | inr e ↦ or_right (ltb 0 (count m)) none (and_from (eqb m.p 0) (eqb m.z 0) (eq-eqb m.p 0 e.0) (eq-eqb m.z 0 e.1))
-    ] in
-    and_from (A && B && C && D) (all (lawful_row m) m.states) (and_from (A && B && C) D abc d)
-    (all_true (lawful_row m) m.states (All-weaker _ _ (λ row r. and_from (leb (length row) m.p) (all (lawful_step (count m) m.z) row)
-    (le-leb (length row) m.p r.0) (all_true (lawful_step (count m) m.z) row (All-weaker _ _ (step_from_parts (count m) m.z) row r.1)))
-    m.states h.rows))
+    let each = all_true (lawful_row m) m.states (All-weaker _ _ (λ row r.
+    let steps = all_true (lawful_step (count m) m.z) row (All-weaker _ _ (step_from_parts (count m) m.z) row r.1) in grind (arith, nat_tests)) m.states h.rows) in
+    elim h.void [
+      | inl some ↦ grind (arith, nat_tests)
+      | inr none ↦ grind (arith, nat_tests)
+    ]
 
 pub void_is_lawful : Lawful void
 void_is_lawful = record { few = omega arith; steps = omega arith; totals = omega arith; void = inr (refl, refl); rows = tt }

@@ -1,2 +1,2 @@
--- What the answers on ladders and unions share. Assumes nothing.
+-- What the answers on unions share. Assumes nothing.
 pub mod Sides

@@ -1,10 +1,10 @@
 -- The models that ladders and unions stand for. Assumes nothing.
-use Rattle.std.specs.Prelude.{ℕ, ◌+◌, ◌-◌, max, Bool, cond, ◌&&◌, ◌||◌, [], ◌∷◌, ◌++◌, map, ◌==◌, nat_le, nat_lt}
+use Rattle.std.specs.Prelude.{ℕ, ◌+◌, ◌-◌, max, Bool, if◌then◌else◌, Option, None, Some, ◌&&◌, ◌||◌, [], ◌∷◌, ◌++◌, map, ◌==◌, nat_le, nat_lt}
 use Rattle.std.specs.List.{range_with_len}
 use Rattle.model.specs.Model.{Model, Step, count, void}
 use Rattle.model.specs.declared.Branch.{Branch}
 use Rattle.sources.specs.declared.disjoint.Side.{Side}
-use Rattle.sources.specs.declared.disjoint.Side.TheVariants.{Left, Nowhere, Right}
+use Rattle.sources.specs.declared.disjoint.Side.TheVariants.{Left, Right}
 use Rattle.sources.specs.declared.ladder.Ladder.{Ladder}
 
 -- The step of state i of a ladder: back to the start with weight ok, on with weight miss.
@@ -18,14 +18,22 @@ ladder_fits n action ok miss = nat_le 1 n && nat_le n 64 && nat_lt action 32 && 
 -- n states, of which each but the last has one step
 abbrev pub ladder : ℕ → ℕ → ℕ → ℕ → Model
 ladder n action ok miss =
-    cond (ladder_fits n action ok miss) (record {
+    if ladder_fits n action ok miss then record {
       states = map (λ i. rung action ok miss i ∷ []) (range_with_len 0 (n - 1)) ++ [] ∷ [];
-      p = cond (n == 1) 0 1;
-      z = cond (n == 1) 0 (ok + miss);
-    }) void
+      p = if n == 1 then 0 else 1;
+      z = if n == 1 then 0 else ok + miss;
+    } else void
 
 abbrev pub ladder_of : Ladder → Model
 ladder_of l = ladder l.states l.action l.ok l.miss
+
+-- whether a ladder is not void
+abbrev pub fits : Ladder → Bool
+fits l = ladder_fits l.states l.action l.ok l.miss
+
+-- whether state s of a ladder has step i: a state but the last has step 0 alone
+abbrev pub has : Ladder → ℕ → ℕ → Bool
+has l s i = fits l && nat_lt (s + 1) l.states && i == 0
 
 -- a step of which each target is k further on
 abbrev pub moved_branch : ℕ → Branch → Branch
@@ -34,19 +42,22 @@ moved_branch k b = record { target = k + b.target; weight = b.weight }
 abbrev pub moved : ℕ → Step → Step
 moved k a = record { action = a.action; branches = map (moved_branch k) a.branches }
 
--- whether two models, of n1 and n2 states, have no union
-abbrev pub union_void : ℕ → ℕ → Bool
-union_void n1 n2 = n1 == 0 || n2 == 0 || nat_lt 64 (n1 + n2)
+-- whether two models have no union
+abbrev pub union_void : Model → Model → Bool
+union_void a b = count a == 0 || count b == 0 || nat_lt 64 (count a + count b)
 
 -- The states of a and then those of b, each with its own steps; each measure is the larger one.
 abbrev pub union : Model → Model → Model
 union a b =
-    cond (union_void (count a) (count b)) void (record {
+    if union_void a b then void else record {
       states = a.states ++ map (map (moved (count a))) b.states;
       p = max a.p b.p;
       z = max a.z b.z;
-    })
+    }
 
--- where a state of the union lies, by its number there
-abbrev pub side_of : ℕ → ℕ → ℕ → Side
-side_of n1 n2 s = cond (union_void n1 n2) Nowhere (cond (nat_lt s n1) (Left s) (cond (nat_lt s (n1 + n2)) (Right (s - n1)) Nowhere))
+-- on which side a state of the union of a and b lies, by its number there, if the union has that state
+abbrev pub side_of : Model → Model → ℕ → Option Side
+side_of a b s =
+    if union_void a b then None
+    else if nat_lt s (count a) then Some (Left s)
+    else if nat_lt s (count a + count b) then Some (Right (s - count a)) else None

@@ -1,11 +1,11 @@
 -- The rows of a union, and that it is lawful. Assumes nothing.
 use Rattle.std.specs.Prelude.{◌≡◌, ℕ, ◌+◌, ◌<◌, ◌≤◌, max, false, List, ◌++◌, map, length}
-use Rattle.std.proofs.Common.{inl, inr, subst, sym, arith}
+use Rattle.std.proofs.Common.{inl, inr, arith}
 use Rattle.std.proofs.ByRecursion.{All-append, All-map, All-weaker}
 use Rattle.std.proofs.lemmas.List.{length-append, length-map}
-use Rattle.std.proofs.lemmas.Bool.{cases_Bool, cond-false, cond-true}
+use Rattle.std.proofs.lemmas.Bool.{cases_Bool}
 use Rattle.std.proofs.lemmas.Bool.Decides.{nat_tests}
-use Rattle.model.specs.Model.{Model, Step, count, void}
+use Rattle.model.specs.Model.{Model, Step, count}
 use Rattle.model.proofs.Laws.{Lawful, row_among_more, void_is_lawful}
 use Rattle.sources.specs.Kinds.{moved, union, union_void}
 use Rattle.sources.specs.Moved.{row_moved}
@@ -26,7 +26,7 @@ module _ (a b : Model) where
   abbrev both : Model
   both = record { states = rows; p = max a.p b.p; z = max a.z b.z }
 
-  both_is_lawful : union_void na nb ≡ false → Lawful a → Lawful b → Lawful both
+  both_is_lawful : union_void a b ≡ false → Lawful a → Lawful b → Lawful both
   both_is_lawful v la lb =
       let few : na + nb ≤ 64 = grind (arith, nat_tests) in
       let some : 0 < na = grind (arith, nat_tests) in
@@ -45,7 +45,7 @@ module _ (a b : Model) where
 
   pub union_is_lawful : Lawful a → Lawful b → Lawful (union a b)
   union_is_lawful la lb =
-      elim (cases_Bool (union_void na nb)) [
-        | inl v ↦ subst Lawful (sym (cond-true (union_void na nb) void both v)) void_is_lawful
-        | inr v ↦ subst Lawful (sym (cond-false (union_void na nb) void both v)) (both_is_lawful v la lb)
+      elim (cases_Bool (union_void a b)) [
+        | inl v ↦ rw v void_is_lawful
+        | inr v ↦ rw v (both_is_lawful v la lb)
       ]

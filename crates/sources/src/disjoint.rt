@@ -1,10 +1,10 @@
 // The disjoint union of two sources: the states of the one, and after them those of the other.
-ghost use Rattle.std.specs.Prelude.{◌≡◌};
-ghost use Rattle.sources.specs.Kinds.{side_of, union};
-ghost use Rattle.model.specs.Model.{count};
+ghost use Rattle.std.specs.Prelude.{◌≡◌, ℕ};
+ghost use Rattle.sources.specs.Kinds.{side_of, union, union_void};
 ghost use Rattle.model.proofs.Laws.{lawful_from_parts, lawful_parts};
 ghost use Rattle.sources.specs.Unions.{union_is_lawful};
 
+use model::STATES;
 use model::source::Source;
 
 /// Two sources as one. With n1 states in the left part, its states keep their numbers, and state t of the right part
@@ -15,10 +15,9 @@ pub struct Union<A, B> {
     right: B,
 }
 
-/// Where a state of a union lies, by its number there.
+/// The part of a union in which a state lies, with its number there.
 #[derive(Clone, Copy)]
 enum Side {
-    Nowhere,
     Left(usize),
     Right(usize),
 }
@@ -40,101 +39,136 @@ impl<A: Source, B: Source> Union<A, B> {
         (left, right)
     }
 
-    fn locate(&self, state: usize) -> Side
-        ensures { result ≡ side_of (count (A.Source.meaning self.now.left)) (count (B.Source.meaning self.now.right)) state }
+    /// Whether a part is void, or the two have too many states together.
+    fn is_void(&self) -> bool
+        ensures { result ≡ union_void (A.meaning self.now.left) (B.meaning self.now.right) }
     {
         let left = self.left.states();
         let right = self.right.states();
-        if left == 0 || right == 0 || left + right > 64 {
-            Side::Nowhere
+        left == 0 || right == 0 || left + right > STATES
+    }
+
+    /// Where a state lies, if the union has it.
+    fn locate(&self, state: usize) -> Option<Side>
+        ensures { result ≡ side_of (A.meaning self.now.left) (B.meaning self.now.right) state }
+    {
+        let left = self.left.states();
+        if self.is_void() {
+            None
         } else if state < left {
-            Side::Left(state)
-        } else if state < left + right {
-            Side::Right(state - left)
+            Some(Side::Left(state))
+        } else if state < left + self.right.states() {
+            Some(Side::Right(state - left))
         } else {
-            Side::Nowhere
+            None
+        }
+    }
+
+    /// What the part in which a state lies answers, asked by the state's number there; without such a state, the default.
+    fn ask<T, L, R>(&self, state: usize, left: L, right: R) -> T
+    where
+        T: Default,
+        L: FnOnce(usize) -> T + Drop,
+        R: FnOnce(usize) -> T + Drop,
+        requires left { L.IsAlwaysCallable left }
+        requires right { R.IsAlwaysCallable right }
+        ensures nowhere { side_of (A.meaning self.now.left) (B.meaning self.now.right) state ≡ None
+            → T.is_default result }
+        ensures left { (s : ℕ)
+            → side_of (A.meaning self.now.left) (B.meaning self.now.right) state ≡ Some (Side.Left s)
+            → L.post left s result }
+        ensures right { (t : ℕ)
+            → side_of (A.meaning self.now.left) (B.meaning self.now.right) state ≡ Some (Side.Right t)
+            → R.post right t result }
+    {
+        match self.locate(state) {
+            Some(Side::Left(s)) => left(s),
+            Some(Side::Right(t)) => right(t),
+            None => T::default(),
         }
     }
 }
 
 impl<A: Source, B: Source> Source for Union<A, B> {
-    ghost meaning = { λ u. union (A.Source.meaning u.left) (B.Source.meaning u.right) };
+    ghost meaning = { λ u. union (A.meaning u.left) (B.meaning u.right) };
 
     ghost obeys = { λ x.
-        let left = A.Source.meaning x.left in
-        let right = B.Source.meaning x.right in
+        let left = A.meaning x.left in
+        let right = B.meaning x.right in
         lawful_from_parts (union left right) (union_is_lawful left right
-        (lawful_parts left (A.Source.obeys x.left)) (lawful_parts right (B.Source.obeys x.right))) };
+        (lawful_parts left (A.obeys x.left)) (lawful_parts right (B.obeys x.right))) };
 
     fn states(&self) -> usize {
-        match self.locate(0) {
-            Side::Nowhere => 0,
-            _ => self.left.states() + self.right.states(),
+        if self.is_void() {
+            0
+        } else {
+            self.left.states() + self.right.states()
         }
     }
 
     fn most_steps(&self) -> usize {
-        match self.locate(0) {
-            Side::Nowhere => 0,
-            _ => self.left.most_steps().max(self.right.most_steps()),
+        if self.is_void() {
+            0
+        } else {
+            self.left.most_steps().max(self.right.most_steps())
         }
     }
 
     fn most_total(&self) -> u32 {
-        match self.locate(0) {
-            Side::Nowhere => 0,
-            _ => self.left.most_total().max(self.right.most_total()),
+        if self.is_void() {
+            0
+        } else {
+            self.left.most_total().max(self.right.most_total())
         }
     }
 
     fn steps(&self, state: usize) -> usize {
-        match self.locate(state) {
-            Side::Nowhere => 0,
-            Side::Left(s) => self.left.steps(s),
-            Side::Right(t) => self.right.steps(t),
-        }
+        self.ask(state, |s| self.left.steps(s), |t| self.right.steps(t))
     }
 
     fn action(&self, state: usize, step: usize) -> u8 {
-        match self.locate(state) {
-            Side::Nowhere => 0,
-            Side::Left(s) => self.left.action(s, step),
-            Side::Right(t) => self.right.action(t, step),
-        }
+        self.ask(
+            state,
+            |s| self.left.action(s, step),
+            |t| self.right.action(t, step),
+        )
     }
 
     fn total(&self, state: usize, step: usize) -> u32 {
-        match self.locate(state) {
-            Side::Nowhere => 0,
-            Side::Left(s) => self.left.total(s, step),
-            Side::Right(t) => self.right.total(t, step),
-        }
+        self.ask(
+            state,
+            |s| self.left.total(s, step),
+            |t| self.right.total(t, step),
+        )
     }
 
     fn branches(&self, state: usize, step: usize) -> usize {
-        match self.locate(state) {
-            Side::Nowhere => 0,
-            Side::Left(s) => self.left.branches(s, step),
-            Side::Right(t) => self.right.branches(t, step),
-        }
+        self.ask(
+            state,
+            |s| self.left.branches(s, step),
+            |t| self.right.branches(t, step),
+        )
     }
 
     fn target(&self, state: usize, step: usize, branch: usize) -> usize {
-        match self.locate(state) {
-            Side::Nowhere => 0,
-            Side::Left(s) => self.left.target(s, step, branch),
-            Side::Right(t) if branch < self.right.branches(t, step) => {
-                self.left.states() + self.right.target(t, step, branch)
-            }
-            Side::Right(_) => 0,
-        }
+        self.ask(
+            state,
+            |s| self.left.target(s, step, branch),
+            |t| {
+                if branch < self.right.branches(t, step) {
+                    self.left.states() + self.right.target(t, step, branch)
+                } else {
+                    0
+                }
+            },
+        )
     }
 
     fn weight(&self, state: usize, step: usize, branch: usize) -> u32 {
-        match self.locate(state) {
-            Side::Nowhere => 0,
-            Side::Left(s) => self.left.weight(s, step, branch),
-            Side::Right(t) => self.right.weight(t, step, branch),
-        }
+        self.ask(
+            state,
+            |s| self.left.weight(s, step, branch),
+            |t| self.right.weight(t, step, branch),
+        )
     }
 }

@@ -1,10 +1,14 @@
 // The ladder: a retry scheme in which each miss leads one state further and each success back to the start.
-ghost use Rattle.std.specs.Prelude.{◌≡◌, ◌+◌, ◌&&◌, ◌==◌, nat_lt};
-ghost use Rattle.sources.specs.Kinds.{ladder, ladder_fits, ladder_of};
+ghost use Rattle.std.specs.Prelude.{◌≡◌};
+ghost use Rattle.sources.specs.Kinds.{fits, has, ladder, ladder_of};
 ghost use Rattle.model.proofs.Laws.{lawful_from_parts};
 ghost use Rattle.sources.specs.Ladders.{ladder_is_lawful};
 
 use model::source::Source;
+use model::{ACTIONS, STATES};
+
+/// The largest total of a ladder's step.
+const TOTAL: u32 = 30_000;
 
 /// A ladder of states: each but the last has one step, with weight `ok` to state 0 and weight `miss` to the next state.
 #[derive(Drop)]
@@ -29,20 +33,23 @@ impl Ladder {
         }
     }
 
+    /// Whether the ladder is not void.
     fn fits(&self) -> bool
-        ensures { result ≡ ladder_fits self.now.states self.now.action self.now.ok self.now.miss }
+        ensures { result ≡ fits self.now }
     {
-        let sized = 1 <= self.states && self.states <= 64 && self.action < 32;
-        sized
+        (1..=STATES).contains(&self.states)
+            && self.action < ACTIONS
             && 1 <= self.ok
             && 1 <= self.miss
-            && self.ok <= 30_000
-            && self.miss <= 30_000 - self.ok
+            && self
+                .ok
+                .checked_add(self.miss)
+                .is_some_and(|total| total <= TOTAL)
     }
 
     /// Whether the state has this step: a ladder's states have step 0 alone, and the last has none.
     fn has(&self, state: usize, step: usize) -> bool
-        ensures { result ≡ (ladder_fits self.now.states self.now.action self.now.ok self.now.miss && nat_lt (state + 1) self.now.states && step == 0) }
+        ensures { result ≡ has self.now state step }
     {
         self.fits() && state < self.states - 1 && step == 0
     }
@@ -53,22 +60,27 @@ impl Source for Ladder {
 
     ghost obeys = { λ x. lawful_from_parts _ (ladder_is_lawful x) };
 
+    #[tactic(auto, using(crate::specs::Ladders::count_is))]
     fn states(&self) -> usize {
         if self.fits() { self.states } else { 0 }
     }
 
+    #[tactic(auto, using(crate::specs::Ladders::most_steps_is))]
     fn most_steps(&self) -> usize {
         self.steps(0)
     }
 
+    #[tactic(auto, using(crate::specs::Ladders::most_total_is))]
     fn most_total(&self) -> u32 {
         self.total(0, 0)
     }
 
+    #[tactic(auto, using(crate::specs::Ladders::steps_are))]
     fn steps(&self, state: usize) -> usize {
         if self.has(state, 0) { 1 } else { 0 }
     }
 
+    #[tactic(auto, using(crate::specs::Ladders::action_is))]
     fn action(&self, state: usize, step: usize) -> u8 {
         if self.has(state, step) {
             self.action
@@ -77,6 +89,7 @@ impl Source for Ladder {
         }
     }
 
+    #[tactic(auto, using(crate::specs::Ladders::total_is))]
     fn total(&self, state: usize, step: usize) -> u32 {
         if self.has(state, step) {
             self.ok + self.miss
@@ -85,10 +98,12 @@ impl Source for Ladder {
         }
     }
 
+    #[tactic(auto, using(crate::specs::Ladders::branches_are))]
     fn branches(&self, state: usize, step: usize) -> usize {
         if self.has(state, step) { 2 } else { 0 }
     }
 
+    #[tactic(auto, using(crate::specs::Ladders::target_is))]
     fn target(&self, state: usize, step: usize, branch: usize) -> usize {
         if self.has(state, step) && branch == 1 {
             state + 1
@@ -97,6 +112,7 @@ impl Source for Ladder {
         }
     }
 
+    #[tactic(auto, using(crate::specs::Ladders::weight_is))]
     fn weight(&self, state: usize, step: usize, branch: usize) -> u32 {
         if !self.has(state, step) {
             return 0;
