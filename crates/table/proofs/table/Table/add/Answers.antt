@@ -9,4 +9,4 @@ use Rattle.table.proofs.table.Table.add.Goals as goal
 pub returns : goal.returns
 returns c =
     let e = added_is c.args.place (states_of c.args.self.now) c.args.value.now (omega (arith, c.requires)) in
-    MatchResult-weaker c.add_step.result (simp take_rest at c.add_step.ensures) (λ x p. e ∙ p) (λ y q. e ∙ q)
+    MatchResult-weaker c.add_step.result (rw c.from.ensures at (simp take_rest at c.add_step.ensures)) (λ x p. e ∙ p) (λ y q. e ∙ q)

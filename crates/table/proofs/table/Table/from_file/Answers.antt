@@ -13,7 +13,7 @@ returns-in_err-read_steps c =
     let one : length c.in_ok-field.field.value.now ≡ 1 = search rules in
     let file = steps_decide c.args.bytes.now _ c.in_ok-field.ensures.answer one (omega (arith, c.if-states-lt1.false))
     (omega (arith, c.if-states-gt-STATES.false)) in
-    let steps = ap (λ ss. in_turn step_field ss (starts 0 4 c.in_ok-field.field.rest.now)) (sym c.with_states-table.ensures)
+    let steps = ap (λ ss. in_turn step_field ss (starts 0 4 c.in_ok-field.field.rest.now)) (sym (rw c.from.ensures at c.with_states-table.ensures))
     ∙ (c.in_err-read_steps.ensures ∙ ap Err (sym p.2)) in
     refused_with _ _ _ p.0 p.1 (file ∙ ap (λ r. then r (λ ss. Ok (measured ss))) steps)
 
@@ -22,6 +22,6 @@ returns c =
     let one : length c.in_ok-field.field.value.now ≡ 1 = search rules in
     let file = steps_decide c.args.bytes.now _ c.in_ok-field.ensures.answer one (omega (arith, c.if-states-lt1.false))
     (omega (arith, c.if-states-gt-STATES.false)) in
-    let steps = ap (λ ss. in_turn step_field ss (starts 0 4 c.in_ok-field.field.rest.now)) (sym c.with_states-table.ensures)
+    let steps = ap (λ ss. in_turn step_field ss (starts 0 4 c.in_ok-field.field.rest.now)) (sym (rw c.from.ensures at c.with_states-table.ensures))
     ∙ c.in_ok-read_steps.ensures in
     file ∙ ap (λ r. then r (λ ss. Ok (measured ss))) steps
