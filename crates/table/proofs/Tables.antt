@@ -1,31 +1,22 @@
--- What a table's own invariants say of its states, steps and branches. Assumes nothing.
+-- What a table's own invariants say of its states and steps. Assumes nothing.
 use Rattle.std.proofs.Common.{◌≡◌, ℕ, length, get_or, ap, ◌∙◌}
 use Rattle.std.proofs.lemmas.List.{length-map}
 use Rattle.model.specs.Model.{count, steps_of}
 use Rattle.model.proofs.Elements.{get_or_map_default}
-use Rattle.table.specs.Arrays.{Row, row_in, step_in}
+use Rattle.table.specs.Arrays.{row_in, step_in}
 use Rattle.table.specs.Few.{items_of}
 use Rattle.table.specs.Meaning.{table_of}
-use Rattle.table.specs.declared.row.Entry.{Entry}
 use Rattle.table.specs.declared.table.Table.{Table}
-use Rattle.table.proofs.Arrays.{Placed, no_entry, no_row, placed_parts}
+use Rattle.table.proofs.Arrays.{Placed, no_row, placed_parts}
 
 module _ (t : Table) where
   pub holds : Placed (length (items_of t.branches)) (items_of t.rows)
   holds = placed_parts (items_of t.rows) (items_of t.branches) t.placed
 
-  -- a state's row, and the entry of a step; past the end those that stand for none
-  abbrev pub row : ℕ → Row
-  row s = get_or (items_of t.rows) s no_row
-
-  abbrev pub entry : ℕ → ℕ → Entry
-  entry s i = get_or (items_of (row s)) i no_entry
-
   pub count_is : count (table_of t) ≡ length (items_of t.rows)
   count_is = length-map (items_of t.rows) (row_in (items_of t.branches))
 
-  pub steps_is : (s : ℕ) → steps_of (table_of t) s ≡ row_in (items_of t.branches) (row s)
-  steps_is s = get_or_map_default (row_in (items_of t.branches)) (items_of t.rows) s no_row
-
-  pub steps_are_counted : (s : ℕ) → length (steps_of (table_of t) s) ≡ length (items_of (row s))
-  steps_are_counted s = ap length (steps_is s) ∙ length-map (items_of (row s)) (step_in (items_of t.branches))
+  pub steps_are_counted : (s : ℕ) → length (steps_of (table_of t) s) ≡ length (items_of (get_or (items_of t.rows) s no_row))
+  steps_are_counted s =
+      ap length (get_or_map_default (row_in (items_of t.branches)) (items_of t.rows) s no_row)
+      ∙ length-map (items_of (get_or (items_of t.rows) s no_row)) (step_in (items_of t.branches))

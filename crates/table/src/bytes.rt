@@ -8,9 +8,6 @@ use crate::few::Few;
 use fields::values::{Packing, Values};
 use model::Branch;
 
-/// The most branches of a file.
-pub(crate) const FILE_BRANCHES: usize = 1024;
-
 /// How branches lie in bytes.
 pub(crate) struct Branches;
 
@@ -66,8 +63,8 @@ pub(crate) fn total_of(bytes: &[u8]) -> u32
 }
 
 /// Adds the branches behind those that are there.
-pub(crate) fn append(branches: &mut Few<Branch, FILE_BRANCHES>, bytes: &[u8])
-    requires { length (items_of branches.old) + length (read_branches bytes.now) ≤ 1024 }
+pub(crate) fn append<const N: usize>(branches: &mut Few<Branch, N>, bytes: &[u8])
+    requires { length (items_of branches.old) + length (read_branches bytes.now) ≤ N }
     ensures { items_of branches.new ≡ items_of branches.old ++ read_branches bytes.now }
 {
     for branch in Values::<Branches>::of(bytes) {

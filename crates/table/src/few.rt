@@ -35,7 +35,7 @@ impl<T, const N: usize> DerefSlice for Few<T, N> {
 }
 
 impl<T: Copy, const N: usize> Few<T, N> {
-    ghost use Rattle.std.specs.Prelude.{◌<◌, ◌==◌, ◌+◌, ◌-◌, ◌∷◌, ◌++◌, [], replicate, slice_set};
+    ghost use Rattle.std.specs.Prelude.{◌<◌, ◌+◌, ◌∷◌, ◌++◌, [], replicate, slice_set};
     ghost use Rattle.table.specs.Few.{items_of};
 
     /// As many times the same item.

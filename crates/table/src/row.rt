@@ -17,7 +17,7 @@ pub struct Entry {
     pub count: u16,
 }
 
-/// A step as a question sees it.
+/// A step as a question sees it: its action and its branches.
 #[derive(Clone, Copy)]
 pub struct Step<'a> {
     pub action: u8,

@@ -4,7 +4,6 @@ ghost use Rattle.model.specs.Model.{lawful};
 ghost use Rattle.table.specs.Arrays.{branches_in, measured, placed, states_in, steps_in};
 ghost use Rattle.table.specs.Few.{items_of};
 
-use crate::bytes::FILE_BRANCHES;
 use crate::few::Few;
 use crate::row::Row;
 use model::Branch;
@@ -16,13 +15,16 @@ mod reading;
 /// The most states of a table.
 const ROWS: usize = reading::STATES as usize;
 
+/// The most branches of a table.
+const BRANCHES: usize = 1024;
+
 /// A model in fixed arrays. It starts with one state and no steps; reading a model file fills it.
 #[derive(Drop)]
 pub struct Table {
     /// The steps of each state.
     rows: Few<Row, ROWS>,
     /// The branches of all steps.
-    branches: Few<Branch, FILE_BRANCHES>,
+    branches: Few<Branch, BRANCHES>,
     /// The number of steps.
     steps: usize,
     /// The largest number of steps of a state, and the largest total.

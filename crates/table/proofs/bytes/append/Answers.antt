@@ -4,7 +4,7 @@ use Rattle.std.proofs.lemmas.List.{length-append}
 use Rattle.table.proofs.bytes.append.Goals as goal
 
 pub push-requires : goal.push-requires
-push-requires c =
+push-requires g c =
     let whole = simp length-append at (ap length c.loop-branch.invariant) in
     let next = ap length c.in-Some.ensures.steps in
     omega (arith, whole, next, c.requires)
