@@ -22,12 +22,19 @@ impl Table {
         })
     }
 
+    /// A step's branches; none where the state has no such step.
+    fn part(&self, state: usize, step: usize) -> &[Branch]
+        ensures { result.now ≡ (step_at (table_of self.now) state step).branches }
+    {
+        self.step(state, step).map_or(&[], |step| step.branches)
+    }
+
     /// A branch of a step, if the step has that branch.
     fn branch(&self, state: usize, step: usize, branch: usize) -> Option<Branch>
         ensures { MatchOption result (branch_at (table_of self.now) state step branch ≡ no_branch)
             (λ b. branch_at (table_of self.now) state step branch ≡ b) }
     {
-        self.step(state, step)?.branches.get(branch).copied()
+        self.part(state, step).get(branch).copied()
     }
 }
 
@@ -57,14 +64,14 @@ impl Source for Table {
     }
 
     fn total(&self, state: usize, step: usize) -> u32 {
-        self.step(state, step).map_or(
-            0,
-            |step| step.branches.iter().map(|branch| branch.weight).sum(),
-        )
+        self.part(state, step)
+            .iter()
+            .map(|branch| branch.weight)
+            .sum()
     }
 
     fn branches(&self, state: usize, step: usize) -> usize {
-        self.step(state, step).map_or(0, |step| step.branches.len())
+        self.part(state, step).len()
     }
 
     fn target(&self, state: usize, step: usize, branch: usize) -> usize {
