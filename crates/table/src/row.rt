@@ -8,8 +8,8 @@ pub(crate) const ROW_STEPS: usize = 16;
 /// The steps of a state.
 pub type Row = Few<Entry, ROW_STEPS>;
 
-/// A step as the table keeps it: its action, and which of the table's branches are its own. All branches lie in one array, since
-/// memory is fixed, and 256 steps with places for 64 branches each would take sixteen times as much.
+/// A step as the table keeps it: its action, and which of the table's branches are its own. All branches share one array of
+/// 1,024, since places for 64 branches in each of 256 steps would take sixteen times the memory.
 #[derive(Clone, Copy, Default)]
 pub struct Entry {
     pub action: u8,
