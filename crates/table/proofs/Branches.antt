@@ -1,23 +1,8 @@
 -- The branches in the bytes of a field, one by one. Assumes nothing.
-use Rattle.std.proofs.Common.{◌≡◌, ℕ, ◌+◌, ◌*◌, ◌/◌, ◌<◌, ◌≤◌, ◌&&◌, List, [], ◌∷◌, length, get_or, drop, refl, arith}
-use Rattle.std.proofs.lemmas.Bool.{le-leb, lt-ltb}
-use Rattle.model.specs.Lists.{all}
-use Rattle.model.specs.Model.{rising, sound_branch}
-use Rattle.model.specs.declared.Branch.{Branch}
+use Rattle.std.proofs.Common.{◌≡◌, ℕ, suc, ◌+◌, ◌*◌, ◌/◌, ◌<◌, ◌≤◌, List, [], ◌∷◌, length, get_or, arith}
+use Rattle.std.proofs.lemmas.List.Sums.{sum_by-cons}
+use Rattle.model.specs.Model.{mass}
 use Rattle.table.specs.File.{read_branches}
-
-pub read_branches_more : (xs : List ℕ) → 3 ≤ length xs
-    → read_branches xs ≡ record { target = get_or xs 0 0; weight = get_or xs 1 0 * 256 + get_or xs 2 0 } ∷ read_branches (drop 3 xs)
-read_branches_more [] h = absurd (omega arith)
-read_branches_more (_ ∷ []) h = absurd (omega arith)
-read_branches_more (_ ∷ _ ∷ []) h = absurd (omega arith)
-read_branches_more (_ ∷ _ ∷ _ ∷ xs) h = refl
-
-pub read_branches_none : (xs : List ℕ) → length xs < 3 → read_branches xs ≡ []
-read_branches_none [] h = refl
-read_branches_none (_ ∷ []) h = refl
-read_branches_none (_ ∷ _ ∷ []) h = refl
-read_branches_none (_ ∷ _ ∷ _ ∷ xs) h = absurd (omega arith)
 
 -- how many there are
 pub length_read_branches : (xs : List ℕ) → (3 * length (read_branches xs) ≤ length xs) × (length xs < 3 * length (read_branches xs) + 3)
@@ -29,7 +14,11 @@ length_read_branches (_ ∷ _ ∷ _ ∷ xs) = let h = length_read_branches xs in
 pub third_is_length : (xs : List ℕ) → length xs / 3 ≡ length (read_branches xs)
 third_is_length xs = let h = length_read_branches xs in omega (arith, h.0, h.1)
 
--- a branch that is sound leaves the verdict to those behind it
-pub sound_more : (n least : ℕ) (b : Branch) (bs : List Branch) → least ≤ b.target → b.target < n → 0 < b.weight
-    → (rising least (b ∷ bs) && all (sound_branch n) (b ∷ bs)) ≡ (rising (b.target + 1) bs && all (sound_branch n) bs)
-sound_more n least b bs h k l = rw (le-leb least b.target h, lt-ltb b.target n k, lt-ltb 0 b.weight l)
+-- bytes give weights below 65,536
+pub mass_bound : (xs : List ℕ) → ((k : ℕ) → get_or xs k 0 < 256) → mass (read_branches xs) ≤ 65535 * length (read_branches xs)
+mass_bound [] h = omega arith
+mass_bound (_ ∷ []) h = omega arith
+mass_bound (_ ∷ _ ∷ []) h = omega arith
+mass_bound (target ∷ high ∷ low ∷ xs) h =
+    let more = sum_by-cons (λ b. b.weight) (record { target = target; weight = high * 256 + low }) (read_branches xs) in
+    omega (arith, more, h 1, h 2, mass_bound xs (λ k. h (suc (suc (suc k)))))

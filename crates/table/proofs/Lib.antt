@@ -2,8 +2,6 @@
 mod Measures
 mod Arrays
 mod Tables
-mod Fitting
 mod Branches
 mod Pushing
-mod Deciding
 mod Turns

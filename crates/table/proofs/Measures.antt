@@ -1,9 +1,8 @@
 -- The laws of a model whose measures are the largest there are. Assumes nothing.
-use Rattle.std.proofs.Common.{◌≡◌, ℕ, zero, suc, ◌<◌, ◌≤◌, true, ◌⊎◌, List, [], ◌∷◌, map, length, replicate, sum_by, refl, inl, inr, arith}
+use Rattle.std.proofs.Common.{◌≡◌, ℕ, zero, suc, ◌<◌, ◌≤◌, true, ◌⊎◌, List, [], ◌∷◌, map, length, replicate, refl, inl, inr, arith}
 use Rattle.std.specs.List.{AllByRecursion as All}
 use Rattle.std.proofs.ByRecursion.{All-weaker}
 use Rattle.std.proofs.lemmas.List.{length-replicate}
-use Rattle.std.proofs.lemmas.List.Sums.{sum_by-cons}
 use Rattle.model.specs.Lists.{greatest}
 use Rattle.model.specs.Model.{Step, lawful, total}
 use Rattle.model.proofs.Greatest.{greatest_bounds, greatest_least}
@@ -53,18 +52,15 @@ lawful_from_sound ss few h =
           ss h (all_with _ _ _ (λ row b c. (b, c)) ss (greatest_bounds length ss) (greatest_bounds row_total ss));
     })
 
--- states without steps
-sound_empty : (n k : ℕ) → All (SoundRow n) (replicate k [])
-sound_empty n zero = tt
-sound_empty n (suc k) = ((omega arith, tt), sound_empty n k)
+-- the same as many times, and states without steps
+pub all_repeated : {X : Type 0} (P : X → Type 0) (n : ℕ) (x : X) → P x → All P (replicate n x)
+all_repeated P zero x h = tt
+all_repeated P (suc n) x h = (h, all_repeated P n x h)
 
 pub lawful_empty : (n : ℕ) → n ≤ 64 → lawful (measured (replicate n [])) ≡ true
-lawful_empty n h = lawful_from_sound (replicate n []) (simp length-replicate h) (sound_empty (length (replicate n [])) n)
+lawful_empty n h =
+    lawful_from_sound (replicate n []) (simp length-replicate h) (all_repeated (SoundRow (length (replicate n []))) n [] (omega arith, tt))
 
 pub greatest_empty : (f : List Step → ℕ) → f [] ≡ 0 → (n : ℕ) → greatest (map f (replicate n [])) ≡ 0
 greatest_empty f e zero = refl
 greatest_empty f e (suc n) = omega (arith, e, greatest_empty f e n)
-
-pub sum_empty : (f : List Step → ℕ) → f [] ≡ 0 → (n : ℕ) → sum_by f (replicate n []) ≡ 0
-sum_empty f e zero = refl
-sum_empty f e (suc n) = omega (arith, sum_by-cons f [] (replicate n []), e, sum_empty f e n)

@@ -1,35 +1,68 @@
 -- What one more step does to a table's arrays and to what they stand for. Assumes nothing.
-use Rattle.std.proofs.Common.{◌≡◌, ℕ, zero, suc, ◌+◌, ◌<◌, ◌≤◌, max, true, List, [], ◌∷◌, ◌++◌, map, length, get_or, take, set, sum_by, ap, ◌∙◌, arith}
-use lib.Seq.{take-set-lt}
+use Rattle.std.proofs.Common.{◌≡◌, ℕ, zero, suc, ◌+◌, ◌<◌, ◌≤◌, max, true, List, [], ◌∷◌, ◌++◌, map, length, get_or, take, drop, set, sum_by, refl, ap, ◌∙◌, arith}
+use Rattle.std.proofs.Math.Seq.{drop-append_seam}
 use Rattle.std.specs.List.{AllByRecursion as All}
 use Rattle.std.proofs.ByRecursion.{All-get_or, All-push, All-set, All-weaker}
-use Rattle.std.proofs.lemmas.List.{length_push, length-set, map_push, map-set, take_more_set}
-use Rattle.std.proofs.lemmas.List.Sums.{sum_by_push, sum_by-set}
+use Rattle.std.proofs.lemmas.List.{drop-append-le, length-append, length-drop, length-set, length_push, map-set, map_push, take-append-le, take_all}
+use Rattle.std.proofs.lemmas.List.Sums.{sum_by-set, sum_by_push}
 use Rattle.model.specs.Lists.{greatest}
 use Rattle.model.specs.Model.{Step, lawful, total}
 use Rattle.model.specs.declared.Branch.{Branch}
+use Rattle.model.proofs.Elements.{get_or_map_default}
 use Rattle.model.proofs.Greatest.{greatest_bounds}
 use Rattle.model.proofs.Laws.{LawfulStep}
-use Rattle.table.specs.Arrays.{branches_in, measured, row_in, states_in, step_in, steps_in, with_step}
+use Rattle.model.proofs.Tests.{all_at}
+use Rattle.table.specs.Arrays.{Row, branches_in, measured, row_in, states_in, step_in, steps_in, with_step}
+use Rattle.table.specs.Few.{items_of}
 use Rattle.table.specs.declared.row.Entry.{Entry}
-use Rattle.table.specs.declared.row.Row.{Row}
-use Rattle.table.proofs.Arrays.{Placed, PlacedRow}
+use Rattle.table.proofs.Arrays.{Inside, Placed, no_row}
 use Rattle.table.proofs.Measures.{SoundRow, lawful_from_sound, row_total, sound_from_lawful}
 
--- a row with one more entry
-abbrev pub pushed : Row → Entry → Row
-pushed r e = record { steps = set r.steps r.count e; count = r.count + 1 }
+map_same : {X Y : Type 0} (f g : X → Y) (xs : List X) → All (λ x. f x ≡ g x) xs → map f xs ≡ map g xs
+map_same f g [] h = refl
+map_same f g (x ∷ xs) h = cc (h.0, map_same f g xs h.1)
 
-row_in_pushed : (bs : List Branch) (r : Row) (e : Entry) → r.count < length r.steps
-    → row_in bs (pushed r e) ≡ row_in bs r ++ step_in bs e ∷ []
-row_in_pushed bs r e l =
-    ap (map (step_in bs)) (take_more_set r.steps r.count e l) ∙ map_push (step_in bs) (take r.count r.steps) e
+-- branches behind those that are there, and a step of them as the last of its row
+module _ (rows : List Row) (bs new : List Branch) (placed : Placed (length bs) rows) where
+  step_kept : (e : Entry) → Inside (length bs) e → step_in (bs ++ new) e ≡ step_in bs e
+  step_kept e h =
+      let d = drop-append-le e.first bs new (omega arith) in
+      let t = take-append-le e.count (drop e.first bs) new (omega (arith, length-drop e.first bs)) in
+      ap (λ ys. record { action = e.action; branches = ys }) (ap (take e.count) d ∙ t)
 
-pub states_in_pushed : (n : ℕ) (rows : List Row) (bs : List Branch) (s : ℕ) (r : Row) (e : Entry) → s < n → r.count < length r.steps
-    → states_in n (set rows s (pushed r e)) bs ≡ set (states_in n rows bs) s (row_in bs r ++ step_in bs e ∷ [])
-states_in_pushed n rows bs s r e l k =
-    ap (map (row_in bs)) (take-set-lt n rows s (pushed r e) l)
-    ∙ (map-set (row_in bs) (take n rows) s (pushed r e) ∙ ap (set (states_in n rows bs) s) (row_in_pushed bs r e k))
+  row_kept : (r : Row) → All (Inside (length bs)) (items_of r) → row_in (bs ++ new) r ≡ row_in bs r
+  row_kept r h = map_same (step_in (bs ++ new)) (step_in bs) (items_of r) (All-weaker _ _ step_kept (items_of r) h)
+
+  module _ (s action : ℕ) (r : Row) where
+    abbrev pub entry : Entry
+    entry = record { action = action; first = length bs; count = length new }
+
+    abbrev pub step : Step
+    step = record { action = action; branches = new }
+
+    module _ (more : items_of r ≡ items_of (get_or rows s no_row) ++ entry ∷ []) where
+      row_pushed : row_in (bs ++ new) r ≡ get_or (states_in rows bs) s [] ++ step ∷ []
+      row_pushed =
+          let old : Row = get_or rows s no_row in
+          let part : step_in (bs ++ new) entry ≡ step = ap (λ ys. record { action = action; branches = ys })
+          (ap (take (length new)) (drop-append_seam bs new) ∙ take_all (length new) new (omega arith)) in
+          let kept = row_kept old (all_at _ rows s no_row placed tt) in
+          let place = get_or_map_default (row_in bs) rows s no_row in
+          ap (map (step_in (bs ++ new))) more ∙ (map_push (step_in (bs ++ new)) (items_of old) entry ∙ cc (part, kept, place))
+
+      pub states_in_pushed : states_in (set rows s r) (bs ++ new) ≡ with_step (states_in rows bs) s step
+      states_in_pushed =
+          let kept = map_same (row_in (bs ++ new)) (row_in bs) rows (All-weaker _ _ row_kept rows placed) in
+          map-set (row_in (bs ++ new)) rows s r ∙ cc (kept, row_pushed)
+
+      pub placed_pushed : Placed (length (bs ++ new)) (set rows s r)
+      placed_pushed =
+          let n : ℕ = length (bs ++ new) in
+          let wider : (es : List Entry) → All (Inside (length bs)) es → All (Inside n) es =
+          λ es h. All-weaker _ _ (λ x k. omega (arith, k, length-append bs new)) es h in
+          let grown = All-push (Inside n) (items_of (get_or rows s no_row)) entry (wider _ (all_at _ rows s no_row placed tt))
+          (omega (arith, length-append bs new)) in
+          All-set _ rows s r (rw more grown) (All-weaker _ _ (λ x h. wider (items_of x) h) rows placed)
 
 greatest_set : {X : Type 0} (f : X → ℕ) (xs : List X) (i : ℕ) (y d : X) → i < length xs → f (get_or xs i d) ≤ f y
     → greatest (map f (set xs i y)) ≡ max (greatest (map f xs)) (f y)
@@ -74,23 +107,3 @@ module _ (ss : List (List Step)) (s : ℕ) (a : Step) (l : s < length ss) where
       (omega (arith, length_push (get_or ss s []) a), All-push (LawfulStep (length ss) 1000000000) (get_or ss s []) a row.1 h) in
       let n = length-set ss s (get_or ss s [] ++ a ∷ []) in
       lawful_from_sound (with_step ss s a) (omega (arith, n)) (rw n (All-set (SoundRow (length ss)) ss s _ longer old))
-
-pub placed_pushed : (used : ℕ) (rows : List Row) (bs : List Branch) (s : ℕ) (r : Row) (e : Entry)
-    → Placed used rows bs → PlacedRow used r → r.count < 16 → e.first ≡ used → used + e.count ≤ 1024
-    → Placed (used + e.count) (set rows s (pushed r e)) bs
-placed_pushed used rows bs s r e p q l f c =
-    let wider : (es : List Entry) → All (λ x. x.first + x.count ≤ used) es → All (λ x. x.first + x.count ≤ used + e.count) es =
-    λ es h. All-weaker _ _ (λ x k. omega (arith, k)) es h in
-    let new : PlacedRow (used + e.count) (pushed r e) = record {
-      wide = length-set _ _ _ ∙ q.wide;
-      few = omega (arith, l);
-      inside = rw (take_more_set r.steps r.count e (omega (arith, l, q.wide)))
-          (All-push (λ x. x.first + x.count ≤ used + e.count) (take r.count r.steps) e (wider _ q.inside) (omega (arith, f)));
-    } in
-    record {
-      tall = length-set _ _ _ ∙ p.tall;
-      long = p.long;
-      low = c;
-      each = All-set (PlacedRow (used + e.count)) rows s (pushed r e) new
-          (All-weaker _ _ (λ x h. record { wide = h.wide; few = h.few; inside = wider _ h.inside }) rows p.each);
-    }

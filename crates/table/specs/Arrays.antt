@@ -1,21 +1,26 @@
 -- What a table's arrays stand for. Assumes nothing.
-use Rattle.std.specs.Prelude.{ℕ, ◌+◌, ◌^◌, Bool, cond, ◌&&◌, List, [], ◌∷◌, ◌++◌, map, length, take, drop, Some, None, sum_by, Option, ◌==◌, nat_le, nat_lt, slice_index_or, slice_set}
+use Rattle.std.specs.Prelude.{ℕ, ◌+◌, ◌^◌, Bool, cond, List, [], ◌∷◌, ◌++◌, map, length, take, drop, Some, None, sum_by, Option, nat_le, nat_lt, slice_index_or, slice_set}
 use Rattle.model.specs.Lists.{all, greatest}
 use Rattle.model.specs.Model.{Model, Step, total}
 use Rattle.model.specs.declared.Branch.{Branch}
+use Rattle.table.specs.Few.{items_of}
+use Rattle.table.specs.declared.few.Few.{Few}
 use Rattle.table.specs.declared.row.Entry.{Entry}
-use Rattle.table.specs.declared.row.Row.{Row}
+
+-- a state's steps, of which there are at most 16
+abbrev pub Row : Type 0
+Row = Few Entry 16
 
 -- the step of an entry, over the table's branches
 abbrev pub step_in : List Branch → Entry → Step
 step_in bs e = record { action = e.action; branches = take e.count (drop e.first bs) }
 
 abbrev pub row_in : List Branch → Row → List Step
-row_in bs r = map (step_in bs) (take r.count r.steps)
+row_in bs r = map (step_in bs) (items_of r)
 
--- the steps of each of the n states
-abbrev pub states_in : ℕ → List Row → List Branch → List (List Step)
-states_in n rows bs = map (row_in bs) (take n rows)
+-- the steps of each state
+abbrev pub states_in : List Row → List Branch → List (List Step)
+states_in rows bs = map (row_in bs) rows
 
 -- The model of some states' steps whose measures are the largest number of steps of a state and the largest total, both 0
 -- without steps.
@@ -37,10 +42,6 @@ steps_in ss = sum_by length ss
 abbrev pub branches_in : List (List Step) → ℕ
 branches_in ss = sum_by (λ row. sum_by (λ a. length a.branches) row) ss
 
--- The arrays are as long as they were made, and each step in use keeps to the first `used` branches.
-abbrev pub placed_row : ℕ → Row → Bool
-placed_row used r =
-    (length r.steps == 16) && nat_le r.count 16 && all (λ e. nat_le (e.first + e.count) used) (take r.count r.steps)
-
-abbrev pub placed : ℕ → List Row → List Branch → Bool
-placed used rows bs = length rows == 64 && length bs == 1024 && nat_le used 1024 && all (placed_row used) rows
+-- each step keeps to the branches
+abbrev pub placed : List Row → List Branch → Bool
+placed rows bs = all (λ r. all (λ e. nat_le (e.first + e.count) (length bs)) (items_of r)) rows

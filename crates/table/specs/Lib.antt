@@ -1,4 +1,5 @@
 -- What a table's arrays stand for, and what a model file says. Assumes nothing.
+pub mod Few
 pub mod Arrays
 pub mod Format
 pub mod File

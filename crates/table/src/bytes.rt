@@ -1,47 +1,73 @@
 // The branches of a step, as a field holds them: the target in one byte, the weight in two.
-ghost use Rattle.std.specs.Prelude.{◌≡◌, ◌+◌, ◌*◌, ◌≤◌, ◌++◌, length, drop};
+ghost use Rattle.std.specs.Prelude.{◌≡◌, ◌+◌, ◌^◌, ◌<◌, ◌≤◌, ◌++◌, length};
+ghost use Rattle.model.specs.Model.{mass};
+ghost use Rattle.table.specs.Few.{items_of};
 ghost use Rattle.table.specs.File.{read_branches, sound_branches};
 
+use crate::few::Few;
+use fields::values::{Packing, Values};
 use model::Branch;
 
-fn weight(high: u8, low: u8) -> u32
-    ensures { result ≡ high * 256 + low }
+/// How branches lie in bytes.
+pub(crate) struct Branches;
+
+impl Packing for Branches {
+    type Item = Branch;
+
+    ghost held = { read_branches };
+
+    fn split(bytes: &[u8]) -> Option<(Branch, &[u8])> {
+        match bytes {
+            [target, high, low, rest @ ..] => {
+                let branch = Branch {
+                    target: *target,
+                    weight: u32::from(u16::from_be_bytes([*high, *low])),
+                };
+                Some((branch, rest))
+            }
+            _ => None,
+        }
+    }
+}
+
+/// The number of branches.
+pub(crate) fn count_of(bytes: &[u8]) -> usize
+    ensures { result ≡ length (read_branches bytes.now) }
 {
-    high as u32 * 256 + low as u32
+    bytes.len() / 3
 }
 
 /// Whether the targets are states and rise, and the weights are at least 1.
 pub(crate) fn in_order(bytes: &[u8], states: usize) -> bool
     ensures { result ≡ sound_branches states (read_branches bytes.now) }
 {
-    let mut rest = bytes;
     let mut least = 0;
-    while let [target, high, low, after @ ..] = rest {
-        let state = *target as usize;
-        if state < least || state >= states || weight(*high, *low) == 0 {
+    for branch in Values::<Branches>::of(bytes) {
+        let target = usize::from(branch.target);
+        if target < least || target >= states || branch.weight == 0 {
             return false;
         }
-        least = state + 1;
-        rest = after;
+        least = target + 1;
     }
     true
 }
 
-/// Writes the branches to the front of `out`, and answers how many they are.
-pub(crate) fn decode(bytes: &[u8], out: &mut [Branch]) -> usize
-    requires { length (read_branches bytes.now) ≤ length out.old }
-    ensures answer { result ≡ length (read_branches bytes.now) }
-    ensures after { out.new ≡ read_branches bytes.now ++ drop (length (read_branches bytes.now)) out.old }
+/// The sum of the weights.
+pub(crate) fn total_of(bytes: &[u8]) -> u32
+    requires { mass (read_branches bytes.now) < 2 ^ 32 }
+    ensures { result ≡ mass (read_branches bytes.now) }
 {
-    let mut rest = bytes;
-    let mut count = 0;
-    while let [target, high, low, after @ ..] = rest {
-        out[count] = Branch {
-            target: *target,
-            weight: weight(*high, *low),
-        };
-        count += 1;
-        rest = after;
+    Values::<Branches>::of(bytes)
+        .map(|branch| branch.weight)
+        .sum()
+}
+
+/// Adds the branches behind those that are there.
+pub(crate) fn append<const N: usize>(branches: &mut Few<Branch, N>, bytes: &[u8])
+    requires { length (items_of branches.old) + length (read_branches bytes.now) ≤ N }
+    ensures { items_of branches.new ≡ items_of branches.old ++ read_branches bytes.now }
+{
+    for branch in Values::<Branches>::of(bytes) {
+        branches.push(branch);
     }
-    count
 }

@@ -2,6 +2,7 @@
 #![tactic(auto)]
 
 mod bytes;
+mod few;
 pub mod format;
 mod row;
 pub mod table;

@@ -1,38 +1,44 @@
 // What a table answers as a source.
-ghost use Rattle.std.specs.Prelude.{◌≡◌, ◌+◌, ◌≤◌, MatchOption};
-ghost use Rattle.model.specs.Model.{branch_at, no_branch, no_step, step_at, total};
-ghost use Rattle.table.specs.Arrays.{fitting, step_in};
+ghost use Rattle.std.specs.Prelude.{◌≡◌, MatchOption};
+ghost use Rattle.model.specs.Model.{branch_at, mass, no_branch, no_step, step_at};
+ghost use Rattle.table.specs.Arrays.{fitting};
 ghost use Rattle.table.specs.Meaning.{table_of};
 
-use crate::row::Entry;
+use crate::row::Step;
 use crate::table::Table;
 use model::Branch;
 use model::source::Source;
 
+/// The sum of the weights, if 32 bits hold it.
+fn checked_total(branches: &[Branch]) -> Option<u32>
+    ensures { result ≡ fitting (mass branches.now) }
+{
+    let mut total = 0u32;
+    for branch in branches {
+        total = total.checked_add(branch.weight)?;
+    }
+    Some(total)
+}
+
 impl Table {
-    /// The entry of a step, if the state has that step.
-    fn entry(&self, state: usize, step: usize) -> Option<Entry>
+    /// A step, if the state has that step.
+    fn step(&self, state: usize, step: usize) -> Option<Step<'_>>
         ensures { MatchOption result (step_at (table_of self.now) state step ≡ no_step)
-            (λ e. (step_at (table_of self.now) state step ≡ step_in self.now.branches e) × (e.first + e.count ≤ 1024)) }
+            (λ s. step_at (table_of self.now) state step ≡ record { action = s.action; branches = s.branches.now }) }
     {
-        if state >= self.states {
-            return None;
-        }
-        let row = &self.rows[state];
-        if step < row.count {
-            Some(row.steps[step])
-        } else {
-            None
-        }
+        let entry = self.rows.get(state)?.get(step)?;
+        let first = usize::from(entry.first);
+        Some(Step {
+            action: entry.action,
+            branches: &self.branches[first..first + usize::from(entry.count)],
+        })
     }
 
-    /// The part of the branches that is an entry's own.
-    fn part(&self, entry: Entry) -> &[Branch]
-        requires { entry.first + entry.count ≤ 1024 }
-        ensures { result.now ≡ (step_in self.now.branches entry).branches }
+    /// A step's branches; none where the state has no such step.
+    fn part(&self, state: usize, step: usize) -> &[Branch]
+        ensures { result.now ≡ (step_at (table_of self.now) state step).branches }
     {
-        let first = entry.first as usize;
-        &self.branches[first..first + entry.count as usize]
+        self.step(state, step).map_or(&[], |step| step.branches)
     }
 
     /// A branch of a step, if the step has that branch.
@@ -40,25 +46,7 @@ impl Table {
         ensures { MatchOption result (branch_at (table_of self.now) state step branch ≡ no_branch)
             (λ b. branch_at (table_of self.now) state step branch ≡ b) }
     {
-        let entry = self.entry(state, step)?;
-        let part = self.part(entry);
-        if branch < part.len() {
-            Some(part[branch])
-        } else {
-            None
-        }
-    }
-
-    /// The sum of an entry's weights, if 32 bits hold it.
-    pub(super) fn checked_total(&self, entry: Entry) -> Option<u32>
-        requires { entry.first + entry.count ≤ 1024 }
-        ensures { result ≡ fitting (total (step_in self.now.branches entry)) }
-    {
-        let mut total: u32 = 0;
-        for branch in self.part(entry) {
-            total = total.checked_add(branch.weight)?;
-        }
-        Some(total)
+        self.part(state, step).get(branch).copied()
     }
 }
 
@@ -68,7 +56,7 @@ impl Source for Table {
     ghost obeys = { λ x. x.laws };
 
     fn states(&self) -> usize {
-        self.states
+        self.rows.len()
     }
 
     fn most_steps(&self) -> usize {
@@ -80,45 +68,28 @@ impl Source for Table {
     }
 
     fn steps(&self, state: usize) -> usize {
-        if state < self.states {
-            self.rows[state].count
-        } else {
-            0
-        }
+        self.rows.get(state).map_or(0, |row| row.len())
     }
 
     fn action(&self, state: usize, step: usize) -> u8 {
-        match self.entry(state, step) {
-            Some(entry) => entry.action,
-            None => 0,
-        }
+        self.step(state, step).map_or(0, |step| step.action)
     }
 
     fn total(&self, state: usize, step: usize) -> u32 {
-        match self.entry(state, step) {
-            Some(entry) => self.checked_total(entry).unwrap_or(0),
-            None => 0,
-        }
+        checked_total(self.part(state, step)).unwrap_or(0)
     }
 
     fn branches(&self, state: usize, step: usize) -> usize {
-        match self.entry(state, step) {
-            Some(entry) => entry.count as usize,
-            None => 0,
-        }
+        self.part(state, step).len()
     }
 
     fn target(&self, state: usize, step: usize, branch: usize) -> usize {
-        match self.branch(state, step, branch) {
-            Some(branch) => branch.target as usize,
-            None => 0,
-        }
+        self.branch(state, step, branch)
+            .map_or(0, |branch| usize::from(branch.target))
     }
 
     fn weight(&self, state: usize, step: usize, branch: usize) -> u32 {
-        match self.branch(state, step, branch) {
-            Some(branch) => branch.weight,
-            None => 0,
-        }
+        self.branch(state, step, branch)
+            .map_or(0, |branch| branch.weight)
     }
 }

@@ -1,29 +1,19 @@
 // Reading a model file into a table.
 ghost use Rattle.std.specs.Prelude.{◌≡◌, ◌+◌, ◌^◌, ◌<◌, ◌≤◌, length, Ok, Err, MatchResult};
 ghost use Rattle.fields.specs.Fields.{in_turn, starts};
+ghost use Rattle.table.specs.Few.{items_of};
 ghost use Rattle.table.specs.File.{added, has_room, model_file, one_more, read_branches, sound_numbers, step_field};
 ghost use Rattle.table.specs.Meaning.{states_of, table_of};
 
-use crate::bytes::in_order;
+use crate::bytes::{count_of, in_order, total_of};
 use crate::format::ModelField;
 use crate::table::Table;
 use fields::fault::FileFault;
 use fields::file::Fields;
-
-/// The most states of a model.
-const STATES: u8 = 64;
-
-/// The number of actions.
-const ACTIONS: u8 = 32;
-
-/// The most steps of a state.
-const ROW_STEPS: usize = 16;
+use model::{ACTIONS, STATES};
 
 /// The most steps of a file.
 const FILE_STEPS: usize = 256;
-
-/// The most branches of a file.
-const FILE_BRANCHES: usize = 1024;
 
 /// The largest total of a step.
 const TOTAL: u32 = 30_000;
@@ -35,8 +25,7 @@ impl Table {
         ensures answer { MatchResult result (λ _. model_file bytes.now ≡ Ok (table_of self.new))
             (λ e. (model_file bytes.now ≡ Err e) × (self.new ≡ self.old)) }
     {
-        let fresh = Table::from_file(bytes)?;
-        *self = fresh;
+        *self = Table::from_file(bytes)?;
         Ok(())
     }
 
@@ -47,10 +36,11 @@ impl Table {
         let [states] = fields.due()?.value else {
             return Err(FileFault::Number(0));
         };
-        if *states < 1 || *states > STATES {
+        let states = usize::from(*states);
+        if !(1..=STATES).contains(&states) {
             return Err(FileFault::Number(0));
         }
-        let mut table = Table::with_states(*states as usize);
+        let mut table = Table::with_states(states);
         for field in fields.by(ModelField::Step) {
             let field = field?;
             table.add(field.value, field.place)?;
@@ -67,7 +57,7 @@ impl Table {
         let [state, action, branches @ ..] = value else {
             return Err(FileFault::Number(place));
         };
-        self.add_step(*state as usize, *action, branches, place)
+        self.add_step(usize::from(*state), *action, branches, place)
     }
 
     fn add_step(
@@ -87,17 +77,14 @@ impl Table {
         if !self.is_sound(state, action, branches) {
             return Err(FileFault::Number(place));
         }
-        if !self.has_room(state, branches.len() / 3) {
+        if !self.has_room(state, count_of(branches)) {
             return Err(FileFault::Limit(place));
         }
-        let step = self.store(action, branches);
-        let Some(total) = self.checked_total(step) else {
-            return Err(FileFault::Limit(place));
-        };
+        let total = total_of(branches);
         if total > TOTAL {
             return Err(FileFault::Limit(place));
         }
-        self.push(state, step, total);
+        self.push(state, action, branches, total);
         Ok(())
     }
 
@@ -106,20 +93,15 @@ impl Table {
         ensures { result ≡ sound_numbers (length (states_of self.now)) state
             (record { action = action; branches = read_branches branches.now }) }
     {
-        if state >= self.states || action >= ACTIONS {
-            return false;
-        }
-        in_order(branches, self.states)
+        let states = self.rows.len();
+        state < states && action < ACTIONS && in_order(branches, states)
     }
 
     /// Whether a state may have one more step, with `count` branches.
     fn has_room(&self, state: usize, count: usize) -> bool
-        requires { state < self.now.states }
+        requires { state < length (items_of self.now.rows) }
         ensures { result ≡ has_room (states_of self.now) state count }
     {
-        if self.rows[state].count >= ROW_STEPS || self.steps >= FILE_STEPS {
-            return false;
-        }
-        count <= FILE_BRANCHES - self.used
+        self.rows[state].room() > 0 && self.steps < FILE_STEPS && count <= self.branches.room()
     }
 }

@@ -1,73 +1,90 @@
 -- A table with one more step keeps every invariant. Assumes nothing.
-use Rattle.std.proofs.Common.{◌≡◌, ℕ, ◌+◌, ◌<◌, ◌≤◌, max, true, List, [], ◌∷◌, ◌++◌, length, get_or, set, sym, ap, ◌∙◌, arith}
+use Rattle.std.proofs.Common.{◌≡◌, ℕ, ◌+◌, ◌-◌, ◌<◌, max, true, List, [], ◌∷◌, ◌++◌, length, get_or, set, ap, ◌∙◌, arith}
+use Rattle.std.proofs.lemmas.List.{get_or_default, length-append, length_push}
 use Rattle.model.specs.Model.{Step, lawful, lawful_step, total}
-use Rattle.model.proofs.Laws.{step_parts}
-use Rattle.table.specs.Arrays.{branches_in, measured, placed, states_in, step_in, steps_in, with_step}
-use Rattle.table.specs.Meaning.{states_of}
+use Rattle.model.specs.declared.Branch.{Branch}
+use Rattle.model.proofs.Laws.{lawful_parts, step_parts}
+use Rattle.table.specs.Arrays.{Row, branches_in, measured, placed, states_in, steps_in, with_step}
+use Rattle.table.specs.Few.{items_of}
+use Rattle.table.specs.File.{has_room}
+use Rattle.table.specs.Meaning.{states_of, table_of}
 use Rattle.table.specs.declared.row.Entry.{Entry}
-use Rattle.table.specs.declared.row.Row.{Row}
 use Rattle.table.specs.declared.table.Table.{Table}
-use Rattle.table.proofs.Arrays.{length_step_in, no_row, placed_from_parts}
-use Rattle.table.proofs.Pushing.{branches_in_pushed, lawful_pushed, most_steps_pushed, most_total_pushed, placed_pushed, pushed, states_in_pushed, steps_in_pushed}
-use Rattle.table.proofs.Tables.{count_is, holds, row_holds, steps_are_counted, steps_is}
+use Rattle.table.proofs.Arrays.{no_row, placed_from_parts}
+use Rattle.table.proofs.Pushing.{branches_in_pushed, lawful_pushed, most_steps_pushed, most_total_pushed, placed_pushed, states_in_pushed, steps_in_pushed}
+use Rattle.table.proofs.Tables.{count_is, holds, steps_are_counted}
 use Rattle.table.proofs.table.Table.push.Goals as goal
 
-module _ (t : Table) (s : ℕ) (e : Entry) (known : s < t.states) (room : (get_or t.rows s no_row).count < 16) where
-  abbrev a : Step
-  a = step_in t.branches e
+-- what is counted and measured of the states' steps
+record Counts (ss : List (List Step)) (steps branches most_steps most_total : ℕ) : Type 0 where
+  laws : lawful (measured ss) ≡ true
+  steps_counted : steps ≡ steps_in ss
+  branches_counted : branches ≡ branches_in ss
+  steps_measured : most_steps ≡ (measured ss).p
+  total_measured : most_total ≡ (measured ss).z
 
-  abbrev rows : List Row
-  rows = set t.rows s (pushed (get_or t.rows s no_row) e)
+counts : (t : Table) (s : ℕ) (a : Step) → s < length (items_of t.rows) → has_room (states_of t) s (length a.branches) ≡ true
+    → lawful_step (length (items_of t.rows)) 1000000000 a ≡ true
+    → Counts (with_step (states_of t) s a) (t.steps + 1) (length (items_of t.branches) + length a.branches)
+    (max t.most_steps (length (get_or (states_of t) s []) + 1)) (max t.most_total (total a))
+counts t s a known room law =
+    let n = count_is t in
+    let inside : s < length (states_of t) = omega (arith, n, known) in
+    let few = (lawful_parts (table_of t) t.laws).few in
+    let short : length (get_or (states_of t) s []) < 300 = grind (arith, room) in
+    record {
+      laws = lawful_pushed (states_of t) s a inside few short t.laws (rw n (step_parts (length (items_of t.rows)) 1000000000 a law));
+      steps_counted = omega (arith, t.steps_counted, steps_in_pushed (states_of t) s a inside);
+      branches_counted = omega (arith, t.branches_counted, branches_in_pushed (states_of t) s a inside);
+      steps_measured = omega (arith, t.steps_measured, most_steps_pushed (states_of t) s a inside);
+      total_measured = omega (arith, t.total_measured, most_total_pushed (states_of t) s a inside);
+    }
 
-  inside : s < length (states_of t)
-  inside = omega (arith, count_is t, known)
+-- the arrays once all is written
+record Written (t : Table) (s : ℕ) (a : Step) (rows : List Row) (bs : List Branch) (r : Row) : Type 0 where
+  states : states_in rows bs ≡ with_step (states_of t) s a
+  placed : placed rows bs ≡ true
+  branches : length bs ≡ length (items_of t.branches) + length a.branches
+  steps : length (items_of r) ≡ length (get_or (states_of t) s []) + 1
 
-  after : states_in t.states rows t.branches ≡ with_step (states_of t) s a
-  after =
-      states_in_pushed t.states t.rows t.branches s (get_or t.rows s no_row) e known (omega (arith, room, (row_holds t s known).wide))
-      ∙ ap (λ row. set (states_of t) s (row ++ a ∷ [])) (sym (steps_is t s known))
-
-  placed_after : e.first ≡ t.used → t.used + e.count ≤ 1024 → placed (t.used + e.count) rows t.branches ≡ true
-  placed_after f c =
-      placed_from_parts (t.used + e.count) rows t.branches
-      (placed_pushed t.used t.rows t.branches s (get_or t.rows s no_row) e (holds t) (row_holds t s known) room f c)
-
-  laws_after : lawful_step t.states 1000000000 a ≡ true → lawful (measured (states_in t.states rows t.branches)) ≡ true
-  laws_after h =
-      let n = count_is t in
-      rw after (lawful_pushed (states_of t) s a inside (omega (arith, n, t.few)) (omega (arith, room, steps_are_counted t s known)) t.laws
-      (rw n (step_parts t.states 1000000000 a h)))
-
-  steps_after : t.steps + 1 ≡ steps_in (states_in t.states rows t.branches)
-  steps_after = rw after (omega (arith, t.steps_counted, steps_in_pushed (states_of t) s a inside))
-
-  branches_after : e.first ≡ t.used → t.used + e.count ≤ 1024 → t.used + e.count ≡ branches_in (states_in t.states rows t.branches)
-  branches_after f c =
-      let n = length_step_in t.branches e (omega (arith, f, c, (holds t).long)) in
-      rw after (omega (arith, n, t.branches_counted, branches_in_pushed (states_of t) s a inside))
-
-  most_steps_after : max t.most_steps ((get_or t.rows s no_row).count + 1) ≡ (measured (states_in t.states rows t.branches)).p
-  most_steps_after = rw after (omega (arith, t.steps_measured, steps_are_counted t s known, most_steps_pushed (states_of t) s a inside))
-
-  most_total_after : max t.most_total (total a) ≡ (measured (states_in t.states rows t.branches)).z
-  most_total_after = rw after (omega (arith, t.total_measured, most_total_pushed (states_of t) s a inside))
+written : (t : Table) (s action : ℕ) (new bs : List Branch) (xs rows : List Row) (old r : Row) (first last : ℕ)
+    → s < length (items_of t.rows) → xs ≡ items_of t.rows → old ≡ get_or xs s old
+    → first ≡ length (items_of t.branches) → bs ≡ items_of t.branches ++ new → last ≡ length bs
+    → items_of r ≡ items_of old ++ record { action = action; first = first; count = last - first } ∷ []
+    → rows ≡ set (items_of t.rows) s r
+    → Written t s (record { action = action; branches = new }) rows bs r
+written t s action new bs xs rows old r first last known these read start grown end more put =
+    let branches : length bs ≡ length (items_of t.branches) + length new =
+    ap length grown ∙ length-append (items_of t.branches) new in
+    let n : last - first ≡ length new = omega arith in
+    let row = get_or_default (items_of t.rows) s old no_row known in
+    let e : Entry = record { action = action; first = length (items_of t.branches); count = length new } in
+    let longer : items_of r ≡ items_of (get_or (items_of t.rows) s no_row) ++ e ∷ [] = cc in
+    record {
+      states = rw (put, grown) (states_in_pushed (items_of t.rows) (items_of t.branches) new (holds t) s action r longer);
+      placed = placed_from_parts rows bs
+          (rw (put, grown) (placed_pushed (items_of t.rows) (items_of t.branches) new (holds t) s action r longer));
+      branches = branches;
+      steps = omega (arith, ap length longer, length_push (items_of (get_or (items_of t.rows) s no_row)) e, steps_are_counted t s);
+    }
 
 pub invariant_of-self : goal.invariant_of-self
 invariant_of-self c =
-    let t = c.args.self.now in
-    let s = c.args.state in
-    let e = c.args.step in
-    let k = c.requires.state in
-    let r = c.requires.room in
+    let t : Table = c.args.self.now in
+    let w = written t c.args.state c.args.action _ _ _ _ _ _ _ _ c.requires.state c.deref.ensures.0 c.index-deref-state.is
+    c.len-first.ensures.number c.append.ensures c.len.ensures.number c.push.ensures c.set.ensures in
+    let n : Counts (states_in (items_of c.set.new.self) (items_of c.append.new.branches)) _ _ _ _ =
+    rw w.states (counts t c.args.state _ c.requires.state c.requires.room c.requires.lawful) in
     record {
-      few = t.few;
-      placed = placed_after t s e k r c.requires.place.0 c.requires.place.1;
-      laws = laws_after t s e k r c.requires.lawful;
-      steps_counted = steps_after t s e k r;
-      branches_counted = branches_after t s e k r c.requires.place.0 c.requires.place.1;
-      steps_measured = c.max-self.ensures ∙ most_steps_after t s e k r;
-      total_measured = c.max-self-2.ensures ∙ (ap (max t.most_total) c.requires.total ∙ most_total_after t s e k r);
+      placed = w.placed;
+      laws = n.laws;
+      steps_counted = n.steps_counted;
+      branches_counted = w.branches ∙ n.branches_counted;
+      steps_measured = c.max-self.ensures ∙ (ap (max t.most_steps) (c.len-2.ensures.number ∙ w.steps) ∙ n.steps_measured);
+      total_measured = c.max-self-2.ensures ∙ (ap (max t.most_total) c.requires.total ∙ n.total_measured);
     }
 
 pub returns : goal.returns
-returns c = after c.args.self.now c.args.state c.args.step c.requires.state c.requires.room
+returns c =
+    (written c.args.self.now c.args.state c.args.action _ _ _ _ _ _ _ _ c.requires.state c.deref.ensures.0 c.index-deref-state.is
+    c.len-first.ensures.number c.append.ensures c.len.ensures.number c.push.ensures c.set.ensures).states

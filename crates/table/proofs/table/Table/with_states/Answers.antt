@@ -1,21 +1,23 @@
 -- A table without steps keeps every invariant. Assumes nothing.
-use Rattle.std.proofs.Common.{◌≡◌, ℕ, ◌≤◌, true, List, [], map, length, replicate, sum_by, sym, refl, ap, ◌∙◌}
+use Rattle.std.proofs.Common.{◌≡◌, ℕ, ◌≤◌, true, List, [], map, length, replicate, sum_by, sym, refl, ap, ◌∙◌, arith}
 use lib.LanesLaws.{map-replicate}
-use Rattle.std.proofs.lemmas.List.{take-replicate}
+use Rattle.std.proofs.lemmas.List.Folds.{sum_by-replicate}
+use Rattle.std.specs.List.{AllByRecursion as All}
 use Rattle.model.specs.Lists.{greatest}
 use Rattle.model.specs.Model.{Step, lawful, total}
 use Rattle.model.specs.declared.Branch.{Branch}
-use Rattle.table.specs.Arrays.{branches_in, measured, row_in, states_in, steps_in}
-use Rattle.table.specs.declared.row.Row.{Row}
-use Rattle.table.proofs.Arrays.{no_entry}
-use Rattle.table.proofs.Measures.{greatest_empty, lawful_empty, sum_empty}
+use Rattle.table.specs.Arrays.{Row, branches_in, measured, placed, row_in, states_in, step_in, steps_in}
+use Rattle.table.specs.Few.{items_of}
+use Rattle.table.proofs.Arrays.{Inside, placed_from_parts}
+use Rattle.table.proofs.Measures.{all_repeated, greatest_empty, lawful_empty}
 use Rattle.table.proofs.table.Table.with_states.Goals as goal
 
-abbrev empty_row : Row
-empty_row = record { steps = replicate 16 no_entry; count = 0 }
+no_steps : (n : ℕ) (rows : List Row) (r : Row) (bs : List Branch) → rows ≡ replicate n r → items_of r ≡ [] → states_in rows bs ≡ replicate n []
+no_steps n rows r bs e h = ap (map (row_in bs)) e ∙ (map-replicate (row_in bs) n r ∙ ap (λ es. replicate n (map (step_in bs) es)) h)
 
-no_steps : (n : ℕ) (bs : List Branch) → n ≤ 64 → states_in n (replicate 64 empty_row) bs ≡ replicate n []
-no_steps n bs h = ap (map (row_in bs)) (take-replicate n 64 empty_row h) ∙ map-replicate (row_in bs) n empty_row
+none_placed : (n : ℕ) (rows : List Row) (r : Row) (bs : List Branch) → rows ≡ replicate n r → items_of r ≡ [] → placed rows bs ≡ true
+none_placed n rows r bs e h =
+    placed_from_parts rows bs (rw e (all_repeated (λ x. All (Inside (length bs)) (items_of x)) n r (rw h tt)))
 
 record Facts (ss : List (List Step)) : Type 0 where
   laws : lawful (measured ss) ≡ true
@@ -27,25 +29,23 @@ record Facts (ss : List (List Step)) : Type 0 where
 facts : (n : ℕ) (ss : List (List Step)) → n ≤ 64 → ss ≡ replicate n [] → Facts ss
 facts n ss h e = rw e (record {
   laws = lawful_empty n h;
-  steps = sym (sum_empty length refl n);
-  branches = sym (sum_empty (λ row. sum_by (λ a. length a.branches) row) refl n);
+  steps = omega (arith, sum_by-replicate {X = List Step} length n []);
+  branches = omega (arith, sum_by-replicate {X = List Step} (λ row. sum_by (λ a. length a.branches) row) n []);
   most_steps = sym (greatest_empty length refl n);
   most_total = sym (greatest_empty (λ row. greatest (map total row)) refl n);
 })
 
 pub invariant_of-result : goal.invariant_of-result
 invariant_of-result c =
-    let n : ℕ = c.args.states in
-    let f = facts n _ c.requires (no_steps n (replicate 1024 (record { target = 0; weight = 0 })) c.requires) in
+    let f = facts c.args.states _ c.requires (no_steps c.args.states _ c.new-row.result _ c.repeated.ensures c.new-row.ensures) in
     record {
-      few = c.requires;
-      placed = refl;
+      placed = none_placed c.args.states _ c.new-row.result _ c.repeated.ensures c.new-row.ensures;
       laws = f.laws;
       steps_counted = f.steps;
-      branches_counted = f.branches;
+      branches_counted = ap length c.new.ensures ∙ f.branches;
       steps_measured = f.most_steps;
       total_measured = f.most_total;
     }
 
 pub returns : goal.returns
-returns c = no_steps c.args.states _ c.requires
+returns c = no_steps c.args.states _ c.new-row.result _ c.repeated.ensures c.new-row.ensures
