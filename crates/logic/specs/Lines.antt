@@ -1,9 +1,10 @@
 -- The line that the code's own line stands for, and one that is read off some bytes. Assumes nothing.
 use Rattle.std.specs.Prelude.{◌≡◌, ℕ, ◌+◌, ◌<◌, Bool, true, ◌&&◌, List, ◌∷◌, length, Ok}
+use Rattle.fields.specs.Bytes.{numbers}
 use Rattle.fields.specs.Fields.{starts}
 use Rattle.theory.specs.Sentences.{all_of, any_of, Line as Meant, not_of as NotLine, step_to, fits_after, one_of_first, sound_share}
 use Rattle.theory.specs.declared.Part.{Part}
-use Rattle.logic.specs.File.{line_at, numbers, parts_of}
+use Rattle.logic.specs.File.{line_at, parts_of}
 use Rattle.logic.specs.declared.line.Line.{Line}
 use Rattle.logic.specs.declared.line.Line.TheVariants.{All, Any, Not, Step}
 use Rattle.logic.specs.declared.line.LineRead.{LineRead}

@@ -25,5 +25,4 @@ pub fn fair_sentence() -> [u8; 43]
 /// Every well-formed sentence that fits a file reads back from its bytes.
 pub fn sentences_read_back()
     ensures { RoundTrips }
-{
-}
+{}

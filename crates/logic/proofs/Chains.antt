@@ -1,0 +1,58 @@
+-- A chain's result in std's words on lists, and the same in ours; lists that are gone through by place. Assumes nothing.
+use Rattle.std.proofs.Common.{◌≡◌, ℕ, max, Bool, true, false, cond, ◌&&◌, ◌||◌, List, [], ◌∷◌, map, length, get_or, filter, None, Some, Option, refl, ap, ◌∙◌, arith}
+use Rattle.std.specs.List.{fold, list_all, list_any, range_with_len, reduce, sum_by}
+use Rattle.std.specs.Option.{option_map, unwrap_or}
+use Rattle.std.proofs.lemmas.List.{get_or_default, length-map, same_lists}
+use Rattle.std.proofs.lemmas.List.FromFn.{get_or-map-range_with_len, length-range_with_len}
+use Rattle.std.proofs.lemmas.List.Sums.{sum_by-cons}
+use Rattle.model.specs.Lists.{all, any, greatest}
+
+module _ {X : Type 0} (p : X → Bool) where
+  pub all_is : (xs : List X) → list_all p xs ≡ all p xs
+  all_is [] = refl
+  all_is (x ∷ xs) = ap (λ b. p x && b) (all_is xs)
+
+  pub any_is : (xs : List X) → list_any p xs ≡ any p xs
+  any_is [] = refl
+  any_is (x ∷ xs) = ap (λ b. p x || b) (any_is xs)
+
+greatest_from : (n : ℕ) (xs : List ℕ) → fold max n xs ≡ max n (greatest xs)
+greatest_from n [] = omega arith
+greatest_from n (x ∷ xs) = omega (arith, greatest_from (max n x) xs)
+
+pub greatest_is : (r : Option ℕ) (xs : List ℕ) → option_map (λ x. x) r ≡ reduce max xs → unwrap_or r 0 ≡ greatest xs
+greatest_is None [] h = refl
+greatest_is None (x ∷ xs) h = cc
+greatest_is (Some y) [] h = cc
+greatest_is (Some y) (x ∷ xs) h = let e : y ≡ fold max x xs = cc in e ∙ greatest_from x xs
+
+module _ {X : Type 0} (xs : List X) (d : X) where
+  -- the elements at all places
+  elements : map (λ i. get_or xs i d) (range_with_len 0 (length xs)) ≡ xs
+  elements =
+      same_lists _ xs (length-map _ _ ∙ length-range_with_len 0 (length xs))
+      (λ k e h. get_or-map-range_with_len (λ i. get_or xs i d) 0 (length xs) k k e (omega (arith, length-map (range_with_len 0 (length xs)) (λ i. get_or xs i d), length-range_with_len 0 (length xs))) (omega arith)
+      ∙ get_or_default xs k d e (omega (arith, length-map (range_with_len 0 (length xs)) (λ i. get_or xs i d), length-range_with_len 0 (length xs))))
+
+  any-map : {Y : Type 0} (p : X → Bool) (f : Y → X) (ys : List Y) → list_any (λ y. p (f y)) ys ≡ any p (map f ys)
+  any-map p f [] = refl
+  any-map p f (y ∷ ys) = ap (λ b. p (f y) || b) (any-map p f ys)
+
+  pub any_place : (p : X → Bool) → list_any (λ i. p (get_or xs i d)) (range_with_len 0 (length xs)) ≡ any p xs
+  any_place p = any-map p (λ i. get_or xs i d) (range_with_len 0 (length xs)) ∙ ap (any p) elements
+
+  sum-map-filter : {Y : Type 0} (w : X → ℕ) (p : X → Bool) (f : Y → X) (ys : List Y)
+      → sum_by (λ y. w (f y)) (filter (λ y. p (f y)) ys) ≡ sum_by w (filter p (map f ys))
+  sum-map-filter w p f [] = refl
+  sum-map-filter w p f (y ∷ ys) =
+      let more = sum-map-filter w p f ys in
+      let kept = sum_by-cons (λ y. w (f y)) y (filter (λ y. p (f y)) ys) in
+      let kept_there = sum_by-cons w (f y) (filter p (map f ys)) in
+      elim (p (f y)) as (λ b. sum_by (λ y. w (f y)) (cond b (y ∷ filter (λ y. p (f y)) ys) (filter (λ y. p (f y)) ys)) ≡ sum_by w (cond b (f y ∷ filter p (map f ys)) (filter p (map f ys)))) [
+        | true ↦ omega arith
+        | false ↦ more
+      ]
+
+  pub sum_places : (w : X → ℕ) (p : X → Bool)
+      → sum_by (λ i. w (get_or xs i d)) (filter (λ i. p (get_or xs i d)) (range_with_len 0 (length xs))) ≡ sum_by w (filter p xs)
+  sum_places w p = sum-map-filter w p (λ i. get_or xs i d) (range_with_len 0 (length xs)) ∙ ap (λ ys. sum_by w (filter p ys)) elements
