@@ -7,20 +7,13 @@ use Rattle.model.specs.Model.{Model, Step, branch_at, count, lawful, mass, no_br
 use Rattle.model.specs.declared.Branch.{Branch}
 use Rattle.model.proofs.Laws.{lawful_parts, targets_inside}
 use Rattle.theory.specs.Sentences.{StateSet, share}
+use Rattle.theory.proofs.Tests.{share_same}
 use Rattle.logic.specs.Words.{has, word}
 use Rattle.logic.proofs.Chains.{sum_places}
 use Rattle.logic.proofs.Words.{has_word}
 
-kept_same : {X : Type 0} (p q : X → Bool) (xs : List X) → All (λ x. p x ≡ q x) xs → filter p xs ≡ filter q xs
-kept_same p q [] h = refl
-kept_same p q (x ∷ xs) h = rw (h.0, kept_same p q xs h.1)
-
 abbrev in_set : StateSet → Branch → Bool
 in_set X b = X b.target
-
--- sets that agree on the targets of a step have the same share of it
-pub share_same : (X Y : StateSet) (a : Step) → All (λ b. X b.target ≡ Y b.target) a.branches → share X a ≡ share Y a
-share_same X Y a h = ap mass (kept_same (in_set X) (in_set Y) a.branches h)
 
 pub share_at_most : (X : StateSet) (a : Step) → share X a ≤ total a
 share_at_most X a =
@@ -32,11 +25,6 @@ pub share_by_branch : (X : StateSet) (a : Step)
 share_by_branch X a = sum_places a.branches no_branch (λ b. b.weight) (in_set X)
 
 module _ (m : Model) (law : lawful m ≡ true) (s i : ℕ) where
-  pub target_inside : (j : ℕ) → j < length (step_at m s i).branches → (branch_at m s i j).target < 64
-  target_inside j h =
-      let under = All-get_or (λ b. b.target < count m) (step_at m s i).branches j no_branch h (targets_inside m law s i) in
-      omega (arith, under, (lawful_parts m law).few)
-
   -- the word of a set gives the share of the set
   pub share_of_word : (X : StateSet) → share (has (word (count m) X)) (step_at m s i) ≡ share X (step_at m s i)
   share_of_word X =
