@@ -1,20 +1,24 @@
 -- A chain's result in std's words on lists, and the same in ours; lists that are gone through by place. Assumes nothing.
 use Rattle.std.proofs.Common.{◌≡◌, ℕ, max, Bool, true, false, cond, ◌&&◌, ◌||◌, List, [], ◌∷◌, map, length, get_or, filter, None, Some, Option, refl, ap, ◌∙◌, arith}
 use Rattle.std.specs.List.{fold, list_all, list_any, range_with_len, reduce, sum_by}
+use Rattle.std.specs.Iterator.{YieldsFirst}
 use Rattle.std.specs.Option.{option_map, unwrap_or}
+use Rattle.std.proofs.lemmas.Iterator.{YieldsList}
+use Rattle.std.proofs.lemmas.Iterator.Consumers.{YieldsList-from_first}
 use Rattle.std.proofs.lemmas.List.{get_or_default, length-map, same_lists}
 use Rattle.std.proofs.lemmas.List.FromFn.{get_or-map-range_with_len, length-range_with_len}
 use Rattle.std.proofs.lemmas.List.Sums.{sum_by-cons}
+use Rattle.fields.specs.declared.values.Values.{Values}
 use Rattle.model.specs.Lists.{all, any, greatest}
 
-module _ {X : Type 0} (p : X → Bool) where
-  pub all_is : (xs : List X) → list_all p xs ≡ all p xs
-  all_is [] = refl
-  all_is (x ∷ xs) = ap (λ b. p x && b) (all_is xs)
+-- the values that some bytes hold come in turn
+pub held_in_turn : {A P : Type 0} (held : List ℕ → List A) {values : Values P} (bytes : List ℕ) → values.bytes.now ≡ bytes
+    → YieldsList (YieldsFirst (λ s. held s.bytes.now)) (λ x. x) values (held bytes)
+held_in_turn held bytes e = YieldsList-from_first (λ x. x) (λ s. held s.bytes.now) (held bytes) (ap held e)
 
-  pub any_is : (xs : List X) → list_any p xs ≡ any p xs
-  any_is [] = refl
-  any_is (x ∷ xs) = ap (λ b. p x || b) (any_is xs)
+pub all_is : {X : Type 0} (p : X → Bool) (xs : List X) → list_all p xs ≡ all p xs
+all_is p [] = refl
+all_is p (x ∷ xs) = ap (λ b. p x && b) (all_is p xs)
 
 greatest_from : (n : ℕ) (xs : List ℕ) → fold max n xs ≡ max n (greatest xs)
 greatest_from n [] = omega arith

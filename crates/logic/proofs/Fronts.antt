@@ -1,9 +1,9 @@
--- What stands at the front of some bytes, and a test of parts in two halves. Assumes nothing.
+-- The part at the front of some bytes, and a test of parts in two halves. Assumes nothing.
 use Rattle.std.proofs.Common.{◌≡◌, ℕ, ◌+◌, ◌*◌, ◌<◌, ◌≤◌, Bool, true, false, ◌&&◌, List, [], ◌∷◌, map, length, get_or, take, drop, refl, ap₂, arith}
 use Rattle.model.specs.Lists.{all}
-use Rattle.theory.specs.Sentences.{step_to, one_of_first, sound_share}
+use Rattle.theory.specs.Sentences.{one_of_first, sound_share}
 use Rattle.theory.specs.declared.Part.{Part}
-use Rattle.logic.specs.File.{parts_of, step_line}
+use Rattle.logic.specs.File.{parts_of}
 use Rattle.logic.specs.Lines.{sound_part}
 
 and_swap : (a b c d : Bool) → (a && b && (c && d)) ≡ (a && c && (b && d))
@@ -41,10 +41,6 @@ pub parts_more : (bytes : List ℕ) → 10 ≤ length bytes
 parts_more (l ∷ i ∷ a ∷ b ∷ c ∷ d ∷ e ∷ f ∷ g ∷ h ∷ bytes) ten =
     ap₂ (λ k m. record { line = l * 256 + i; k = k; m = m } ∷ parts_of bytes) (four_in_twos a b c d) (four_in_twos e f g h)
 parts_more bytes ten = absurd (omega arith)
-
-pub step_line_is : (value : List ℕ) → 1 ≤ length value → step_line value ≡ step_to (get_or value 0 0) (parts_of (drop 1 value))
-step_line_is [] h = absurd (omega arith)
-step_line_is (_ ∷ _) h = refl
 
 pub and_true : (b : Bool) → (b && true) ≡ b
 and_true true = refl

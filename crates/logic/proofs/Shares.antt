@@ -1,11 +1,11 @@
 -- The share of a step's weight that goes to a set, branch by branch and as a word has it. Assumes nothing.
-use Rattle.std.proofs.Common.{◌≡◌, ℕ, ◌<◌, ◌≤◌, Bool, true, not, List, [], ◌∷◌, length, get_or, filter, refl, ap, arith}
-use Rattle.std.specs.List.{range_with_len, sum_by, AllByRecursion as All}
-use Rattle.std.proofs.ByRecursion.{All-get_or, All-weaker}
+use Rattle.std.proofs.Common.{◌≡◌, ℕ, ◌≤◌, Bool, true, not, length, get_or, filter, refl, arith}
+use Rattle.std.specs.List.{range_with_len, sum_by}
+use Rattle.std.proofs.ByRecursion.{All-weaker}
 use Rattle.std.proofs.lemmas.List.Filters.{sum_by-filter_both}
-use Rattle.model.specs.Model.{Model, Step, branch_at, count, lawful, mass, no_branch, step_at, total}
+use Rattle.model.specs.Model.{Model, Step, count, lawful, no_branch, step_at, total}
 use Rattle.model.specs.declared.Branch.{Branch}
-use Rattle.model.proofs.Laws.{lawful_parts, targets_inside}
+use Rattle.model.proofs.Laws.{targets_inside}
 use Rattle.theory.specs.Sentences.{StateSet, share}
 use Rattle.theory.proofs.Tests.{share_same}
 use Rattle.logic.specs.Words.{has, word}

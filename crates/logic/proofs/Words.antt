@@ -1,9 +1,10 @@
 -- A set of states as a word: what sets and operations on them become, and which bits the word has. Assumes nothing.
 use Rattle.std.proofs.Common.{◌≡◌, ℕ, zero, suc, ◌+◌, ◌-◌, ◌*◌, ◌/◌, ◌%◌, ◌^◌, ◌<◌, ◌≤◌, Bool, true, false, cond, not, ◌&&◌, ◌||◌, eqb, sym, refl, ap, ◌∙◌, ap₂, inl, inr, one-mul, pow-suc, add-one, arith, pow_mono}
-use native.Mathlib.Nat.{div-eq_of_lt, mod-eq_of_lt}
+use native.Mathlib.Nat.{div-eq_of_lt}
 use lib.Bits.{and_block, bit_and, bit_or, bit_xor, or_block, or_shifted_r, xor_block}
 use lib.Pow.{field, high, low, mod-mod-pow}
-use Rattle.std.proofs.lemmas.Nat.{mod-pow-add}
+use Rattle.std.specs.Int.{bit_at}
+use Rattle.std.proofs.lemmas.Nat.Bits.{bit_at-lt, same_from_bits_below}
 use Rattle.std.proofs.lemmas.Bool.{cases_eq}
 use Rattle.theory.specs.Sentences.{StateSet, nowhere}
 use Rattle.logic.specs.Words.{has, word}
@@ -104,13 +105,9 @@ bit_as_test zero h = refl
 bit_as_test (suc zero) h = refl
 bit_as_test (suc (suc b)) h = absurd (omega arith)
 
--- the set of a word has the word's low bits
-word_low : (n w : ℕ) → word n (has w) ≡ w % 2 ^ n
-word_low zero w = omega arith
-word_low (suc n) w =
-    let more : w % 2 ^ (1 + n) ≡ w / 2 ^ n % 2 * 2 ^ n + w % 2 ^ n = mod-pow-add w 1 n in
-    let e : suc n ≡ 1 + n = omega arith in
-    ap₂ (λ b r. b * 2 ^ n + r) (bit_as_test (w / 2 ^ n % 2) (omega arith)) (word_low n w) ∙ sym more ∙ ap (λ k. w % 2 ^ k) (sym e)
-
+-- the set that a word is has the word
 pub word_has : (n w : ℕ) → w < 2 ^ n → word n (has w) ≡ w
-word_has n w h = word_low n w ∙ mod-eq_of_lt h
+word_has n w h =
+    let bit : (v s : ℕ) → cond (has v s) 1 0 ≡ bit_at v s = λ v s. bit_as_test (bit_at v s) (bit_at-lt v s) in
+    same_from_bits_below n (word n (has w)) w (word_below n (has w)) h
+    (λ s l. sym (bit (word n (has w)) s) ∙ ap (λ b. cond b 1 0) (has_word n (has w) s l) ∙ bit w s)
