@@ -12,9 +12,9 @@ use Rattle.fields.specs.declared.values.Values.{Values}
 use Rattle.model.specs.Lists.{all, any, greatest}
 
 -- the values that some bytes hold come in turn
-pub held_in_turn : {A P : Type 0} (held : List ℕ → List A) {values : Values P} (bytes : List ℕ) → values.bytes.now ≡ bytes
-    → YieldsList (YieldsFirst (λ s. held s.bytes.now)) (λ x. x) values (held bytes)
-held_in_turn held bytes e = YieldsList-from_first (λ x. x) (λ s. held s.bytes.now) (held bytes) (ap held e)
+pub held_in_turn : {A P : Type 0} (held : List ℕ → List A) (values : Values P)
+    → YieldsList (YieldsFirst (λ s. held s.bytes.now)) (λ x. x) values (held values.bytes.now)
+held_in_turn held values = YieldsList-from_first (λ x. x) (λ s. held s.bytes.now) (held values.bytes.now) refl
 
 pub all_is : {X : Type 0} (p : X → Bool) (xs : List X) → list_all p xs ≡ all p xs
 all_is p [] = refl

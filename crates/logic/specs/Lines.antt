@@ -11,9 +11,9 @@ use Rattle.logic.specs.declared.line.LineRead.{LineRead}
 
 abbrev pub meant : Line → Meant
 meant (Not i) = NotLine i
-meant (All bytes) = all_of (numbers bytes.now)
-meant (Any bytes) = any_of (numbers bytes.now)
-meant (Step action bytes) = step_to action (parts_of bytes.now)
+meant (All lines) = all_of (numbers lines.bytes.now)
+meant (Any lines) = any_of (numbers lines.bytes.now)
+meant (Step action parts) = step_to action (parts_of parts.bytes.now)
 
 -- a part of a line that may stand behind i others
 abbrev pub sound_part : ℕ → Part → Bool

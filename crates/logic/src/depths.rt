@@ -5,8 +5,6 @@ ghost use Rattle.theory.specs.Sentences.{line_depth};
 ghost use Rattle.logic.specs.Lines.{meant};
 
 use crate::line::{Line, named};
-use crate::parts::Parts;
-use fields::values::{Numbers, Values};
 
 impl Line<'_> {
     /// The depth of the line.
@@ -16,14 +14,12 @@ impl Line<'_> {
     {
         match self {
             Line::Not(line) => named(depths, line, 0),
-            Line::All(lines) | Line::Any(lines) => Values::<Numbers>::of(lines)
+            Line::All(lines) | Line::Any(lines) => lines
                 .map(|line| named(depths, line, 0))
                 .max()
                 .unwrap_or(0),
             Line::Step(_, parts) => {
-                let deepest = Values::<Parts>::of(parts)
-                    .map(|part| named(depths, part.line, 0))
-                    .max();
+                let deepest = parts.map(|part| named(depths, part.line, 0)).max();
                 deepest.unwrap_or(0) + 1
             }
         }

@@ -21,13 +21,13 @@ const ACTIONS: u8 = 32;
 /// The largest m of a part.
 const WHOLE: u32 = 1_000_000_000;
 
-/// A line, the numbers that it names still in bytes: two for a line number, ten for a part.
+/// A line, over the bytes of its field.
 #[derive(Clone, Copy)]
 pub enum Line<'a> {
     Not(u16),
-    All(&'a [u8]),
-    Any(&'a [u8]),
-    Step(u8, &'a [u8]),
+    All(Values<'a, Numbers>),
+    Any(Values<'a, Numbers>),
+    Step(u8, Values<'a, Parts>),
 }
 
 /// A line that was read, with the bytes behind it and their place.
@@ -72,8 +72,8 @@ impl<'a> Line<'a> {
                 Some((line, _)) => Line::Not(line),
                 None => Line::Not(0),
             },
-            0x12 => Line::All(value),
-            0x13 => Line::Any(value),
+            0x12 => Line::All(Values::of(value)),
+            0x13 => Line::Any(Values::of(value)),
             _ => Line::step_from(value),
         }
     }
@@ -83,8 +83,8 @@ impl<'a> Line<'a> {
         ensures { meant result ≡ step_line value.now }
     {
         match value {
-            [action, parts @ ..] => Line::Step(*action, parts),
-            [] => Line::Step(0, value),
+            [action, parts @ ..] => Line::Step(*action, Values::of(parts)),
+            [] => Line::Step(0, Values::of(value)),
         }
     }
 
@@ -94,11 +94,11 @@ impl<'a> Line<'a> {
     {
         match self {
             Line::Not(line) => is_earlier(line, before),
-            Line::All(lines) | Line::Any(lines) => {
-                Values::<Numbers>::of(lines).all(|line| is_earlier(line, before))
+            Line::All(mut lines) | Line::Any(mut lines) => {
+                lines.all(|line| is_earlier(line, before))
             }
-            Line::Step(action, parts) => {
-                action < ACTIONS && Values::<Parts>::of(parts).all(|part| is_sound(part, before))
+            Line::Step(action, mut parts) => {
+                action < ACTIONS && parts.all(|part| is_sound(part, before))
             }
         }
     }

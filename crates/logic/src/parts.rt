@@ -5,6 +5,7 @@ use fields::values::Packing;
 use theory::Part;
 
 /// Parts of ten bytes each: two for the line, four for k and four for m, the high byte first.
+#[derive(Clone, Copy)]
 pub struct Parts;
 
 impl Packing for Parts {

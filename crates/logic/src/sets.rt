@@ -9,7 +9,7 @@ ghost use Rattle.logic.specs.Words.{has, sets_in, word};
 
 use crate::line::{Line, named};
 use crate::parts::Parts;
-use fields::values::{Numbers, Values};
+use fields::values::Values;
 use model::source::Source;
 use theory::Part;
 
@@ -77,25 +77,25 @@ impl<'a, S: Source> Sets<'a, S> {
     }
 
     /// Whether a step is one of the action, and every part holds of it.
-    fn passes(&self, state: usize, step: usize, action: u8, parts: &[u8]) -> bool
+    fn passes(&self, state: usize, step: usize, action: u8, mut parts: Values<Parts>) -> bool
         ensures { let a = step_at (S.meaning self.now.source.now) state step in
-            result ≡ ((a.action == action) && all (part_holds (sets_in self.now.words.now) a) (parts_of parts.now)) }
+            result ≡ ((a.action == action) && all (part_holds (sets_in self.now.words.now) a) (parts_of parts.entry.bytes.now)) }
     {
         self.source.action(state, step) == action
-            && Values::<Parts>::of(parts).all(|part| self.part_holds(state, step, part))
+            && parts.all(|part| self.part_holds(state, step, part))
     }
 
     /// Whether a state has a step of the action of which every part holds.
-    fn takes(&self, state: usize, action: u8, parts: &[u8]) -> bool
-        ensures { result ≡ line_holds (S.meaning self.now.source.now) (sets_in self.now.words.now) (step_to action (parts_of parts.now)) state }
+    fn takes(&self, state: usize, action: u8, parts: Values<Parts>) -> bool
+        ensures { result ≡ line_holds (S.meaning self.now.source.now) (sets_in self.now.words.now) (step_to action (parts_of parts.entry.bytes.now)) state }
     {
         (0..self.source.steps(state)).any(|step| self.passes(state, step, action, parts))
     }
 
     /// The states with such a step.
-    fn takers(&self, action: u8, parts: &[u8]) -> u64
+    fn takers(&self, action: u8, parts: Values<Parts>) -> u64
         ensures { let m = S.meaning self.now.source.now in
-            result ≡ word (count m) (line_holds m (sets_in self.now.words.now) (step_to action (parts_of parts.now))) }
+            result ≡ word (count m) (line_holds m (sets_in self.now.words.now) (step_to action (parts_of parts.entry.bytes.now))) }
     {
         let mut set = 0;
         for state in 0..self.source.states() {
@@ -114,12 +114,8 @@ impl<'a, S: Source> Sets<'a, S> {
         let all = everywhere(self.source.states());
         match line {
             Line::Not(line) => all ^ self.named(line),
-            Line::All(lines) => {
-                Values::<Numbers>::of(lines).fold(all, |set, line| set & self.named(line))
-            }
-            Line::Any(lines) => {
-                Values::<Numbers>::of(lines).fold(0, |set, line| set | self.named(line))
-            }
+            Line::All(lines) => lines.fold(all, |set, line| set & self.named(line)),
+            Line::Any(lines) => lines.fold(0, |set, line| set | self.named(line)),
             Line::Step(action, parts) => self.takers(action, parts),
         }
     }

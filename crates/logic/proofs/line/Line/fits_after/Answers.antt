@@ -1,8 +1,7 @@
 -- Assumes nothing.
-use Rattle.std.proofs.Common.{◌&&◌, true, sym, refl, ap, ◌∙◌, arith, rules, tests}
+use Rattle.std.proofs.Common.{◌∙◌, arith, rules, tests}
 use Rattle.std.proofs.lemmas.Bool.{lt-ltb}
 use Rattle.std.proofs.lemmas.Iterator.Search.{all_from_yields_List}
-use Rattle.model.specs.Lists.{all}
 use Rattle.fields.specs.Bytes.{numbers}
 use Rattle.theory.specs.Sentences.{one_of_first}
 use Rattle.logic.specs.File.{parts_of}
@@ -15,14 +14,13 @@ use Rattle.logic.proofs.line.Line.fits_after.Goals.{in-All, in-All-2}
 pub returns-then-action-lt-ACTIONS : goal.returns-then-action-lt-ACTIONS
 returns-then-action-lt-ACTIONS c =
     let told = all_from_yields_List (sound_part c.args.before) c.all.new.self _ c.all.result c.all.ensures.ran
-    (held_in_turn parts_of c.in-Step.parts.now c.of.ensures) (λ x b q k. search (rules, tests)) in
+    (held_in_turn parts_of c.in-Step.parts) (λ x b q k. search (rules, tests)) in
     rw (c.in-Step.is, lt-ltb c.in-Step.action 32 c.if-action-lt-ACTIONS.true)
-    (told ∙ all_is (sound_part c.args.before) (parts_of c.in-Step.parts.now) ∙ sound_parts c.args.before (parts_of c.in-Step.parts.now))
+    (told ∙ all_is (sound_part c.args.before) (parts_of c.in-Step.parts.bytes.now) ∙ sound_parts c.args.before (parts_of c.in-Step.parts.bytes.now))
 
 pub returns-in-All : goal.returns-in-All
 returns-in-All c =
     let told = all_from_yields_List (one_of_first c.args.before) c.all-in-All.new.self _ c.all-in-All.result c.all-in-All.ensures.ran
-    (held_in_turn numbers c.of-in-All.result.bytes.now refl) (λ x b q k. search (rules, tests)) in
-    let all_are = told ∙ all_is (one_of_first c.args.before) (numbers c.of-in-All.result.bytes.now) ∙ sym (and_true _) in
-    let same = all_are ∙ ap (λ bs. all (one_of_first c.args.before) (numbers bs) && true) c.of-in-All.ensures in
-    grind arith
+    (held_in_turn numbers _) (λ x b q k. search (rules, tests)) in
+    let same = rw all_is at told in
+    grind (arith, and_true)

@@ -24,9 +24,9 @@ pub returns-in-All : goal.returns-in-All
 returns-in-All g c =
     let m : Model = g.S.Source.meaning c.args.self.now.source.now in
     let named : ℕ → StateSet = set_of (sets_in c.args.self.now.words.now) in
-    let lines : List ℕ = numbers c.in-All.lines.now in
+    let lines : List ℕ = numbers c.in-All.lines.bytes.now in
     let told = fold_from_yields_List _ (λ w i. bit_and w (word (count m) (named i))) c.everywhere-all.result c.fold.result c.fold.ensures.ran
-    (held_in_turn numbers c.in-All.lines.now c.of.ensures) (λ a x b q k. search (rules, tests)) in
+    (held_in_turn numbers c.in-All.lines) (λ a x b q k. search (rules, tests)) in
     let all_is = c.everywhere-all.ensures ∙ ap (λ n. word n (λ s. true)) c.states.ensures in
     told ∙ ap (λ w. fold (λ v i. bit_and v (word (count m) (named i))) w lines) all_is ∙ met_all (count m) named lines
     ∙ ap (λ l. word (count m) (line_holds m (sets_in c.args.self.now.words.now) (meant l))) (sym c.in-All.is)
@@ -35,8 +35,8 @@ pub returns-in-Any : goal.returns-in-Any
 returns-in-Any g c =
     let m : Model = g.S.Source.meaning c.args.self.now.source.now in
     let named : ℕ → StateSet = set_of (sets_in c.args.self.now.words.now) in
-    let lines : List ℕ = numbers c.in-Any.lines.now in
+    let lines : List ℕ = numbers c.in-Any.lines.bytes.now in
     let told = fold_from_yields_List _ (λ w i. bit_or w (word (count m) (named i))) 0 c.fold-in-Any.result c.fold-in-Any.ensures.ran
-    (held_in_turn numbers c.in-Any.lines.now c.of-in-Any.ensures) (λ a x b q k. search (rules, tests)) in
+    (held_in_turn numbers c.in-Any.lines) (λ a x b q k. search (rules, tests)) in
     told ∙ joined_all (count m) named lines
     ∙ ap (λ l. word (count m) (line_holds m (sets_in c.args.self.now.words.now) (meant l))) (sym c.in-Any.is)

@@ -15,5 +15,5 @@ returns-then-action g c =
     let a : Step = step_at m c.args.state c.args.step in
     let holds = part_holds (sets_in c.args.self.now.words.now) a in
     let told = all_from_yields_List holds c.all.new.self _ c.all.result c.all.ensures.ran
-    (held_in_turn parts_of c.args.parts.now c.of.ensures) (λ x b q k. search (rules, tests)) in
-    rw (eq-eqb a.action c.args.action (sym c.action.ensures ∙ c.if-action.true)) (told ∙ all_is holds (parts_of c.args.parts.now))
+    (held_in_turn parts_of c.args.parts) (λ x b q k. search (rules, tests)) in
+    rw (eq-eqb a.action c.args.action (sym c.action.ensures ∙ c.if-action.true)) (told ∙ all_is holds (parts_of c.args.parts.bytes.now))

@@ -15,7 +15,7 @@ pub loop-state-preserved : goal.loop-state-preserved
 loop-state-preserved g c =
     let m : Model = g.S.Source.meaning c.args.self.now.source.now in
     let law = lawful_parts m (g.met.S.Source.obeys c.args.self.now.source.now) in
-    let X : StateSet = line_holds m (sets_in c.args.self.now.words.now) (step_to c.args.action (parts_of c.args.parts.now)) in
+    let X : StateSet = line_holds m (sets_in c.args.self.now.words.now) (step_to c.args.action (parts_of c.args.parts.bytes.now)) in
     let low : c.loop-state.state < 64 = omega (arith, c.loop-state-test.true, c.states-state-end.ensures, law.few) in
     elim c.if-takes.branch [
       | then-takes w ↦ w.set-is ∙ ap₂ bit_or c.loop-state.invariant (one_shl c.loop-state.state 64 low)

@@ -7,4 +7,4 @@ use Rattle.logic.proofs.sets.Sets.takers.Given as goal
 
 abbrev pub invariant-loop-state : goal.invariant-loop-state
 invariant-loop-state g l =
-    l.set ≡ word l.state (line_holds (g.S.Source.meaning l.self.source.now) (sets_in l.self.words.now) (step_to l.action (parts_of l.parts)))
+    l.set ≡ word l.state (line_holds (g.S.Source.meaning l.self.source.now) (sets_in l.self.words.now) (step_to l.action (parts_of l.parts.bytes.now)))
