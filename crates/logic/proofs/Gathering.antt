@@ -1,13 +1,18 @@
 -- Words of sets that are met or joined one after another, and the words that stand for some sets. Assumes nothing.
-use Rattle.std.proofs.Common.{◌≡◌, ℕ, zero, suc, ◌-◌, ◌^◌, ◌<◌, Bool, true, false, ◌&&◌, ◌||◌, eqb, List, [], ◌∷◌, map, get_or, sym, refl, ap, ◌∙◌, arith}
-use Rattle.std.specs.List.{fold}
+use Rattle.std.proofs.Common.{◌≡◌, ℕ, zero, suc, ◌+◌, ◌*◌, ◌%◌, ◌≤◌, ◌++◌, cond, filter, inl, inr, ◌-◌, ◌^◌, ◌<◌, Bool, true, false, ◌&&◌, ◌||◌, eqb, List, [], ◌∷◌, map, get_or, sym, refl, ap, ◌∙◌, arith}
+use Rattle.std.specs.List.{fold, range_with_len}
+use Rattle.std.proofs.lemmas.Bool.{cases_Bool}
+use Rattle.std.proofs.lemmas.List.{map-id}
+use Rattle.std.proofs.lemmas.List.FromFn.{filter_of_map_range_with_len_more}
+use Rattle.std.proofs.lemmas.List.Sums.{fold-append}
+use Rattle.std.proofs.lemmas.Nat.{one_shl}
 use Rattle.std.proofs.lemmas.Nat.Bits.{bit_at-zero}
 use lib.Bits.{bit_and, bit_or}
 use Rattle.model.specs.Lists.{all, any}
 use Rattle.model.proofs.Elements.{get_or_map_default}
 use Rattle.theory.specs.Sentences.{StateSet, nowhere, set_of}
 use Rattle.logic.specs.Words.{has, sets_in, word}
-use Rattle.logic.proofs.Words.{has_word, word_and, word_below, word_has, word_nowhere, word_or, word_same}
+use Rattle.logic.proofs.Words.{has_word, or_bit, word_and, word_below, word_has, word_nowhere, word_or, word_same, word_suc}
 
 has_zero : (s : ℕ) → has 0 s ≡ false
 has_zero s = ap (λ b. eqb b 1) (bit_at-zero s)
@@ -71,3 +76,24 @@ module _ (n : ℕ) (F : ℕ → StateSet) where
 
   pub joined_all : (is : List ℕ) → fold (λ w i. bit_or w (word n (F i))) 0 is ≡ word n (λ s. any (λ i. F i s) is)
   joined_all is = ap (λ w. fold (λ v j. bit_or v (word n (F j))) w is) (sym (word_nowhere n)) ∙ joined nowhere is
+
+-- a word is gathered from the bits of the states that its set has
+module _ (X : StateSet) where
+  abbrev with_state : ℕ → ℕ → ℕ
+  with_state w s = bit_or w (1 * 2 ^ s % 2 ^ 64)
+
+  one_more_state : (n : ℕ) → n < 64 → fold with_state (word n X) (cond (X n) (n ∷ []) []) ≡ word (n + 1) X
+  one_more_state n low =
+      elim (cases_Bool (X n)) [
+        | inl h ↦ ap (λ b. fold with_state (word n X) (cond b (n ∷ []) [])) h ∙ ap (bit_or (word n X)) (one_shl n 64 low) ∙ or_bit n X (sym h)
+        | inr h ↦ ap (λ b. fold with_state (word n X) (cond b (n ∷ []) [])) h ∙ word_suc n X (sym h)
+      ]
+
+  pub states_gathered : (n : ℕ) → n ≤ 64 → fold (λ w s. bit_or w (1 * 2 ^ s % 2 ^ 64)) 0 (filter X (range_with_len 0 n)) ≡ word n X
+  states_gathered zero h = refl
+  states_gathered (suc n) h =
+      let more : filter X (range_with_len 0 (n + 1)) ≡ filter X (range_with_len 0 n) ++ cond (X n) (n ∷ []) [] =
+      simp map-id at (filter_of_map_range_with_len_more X (λ s. s) 0 n n (omega arith)) in
+      let e : n + 1 ≡ suc n = omega arith in
+      rw e at (ap (fold with_state 0) more ∙ fold-append with_state 0 (filter X (range_with_len 0 n)) (cond (X n) (n ∷ []) [])
+      ∙ ap (λ w. fold with_state w (cond (X n) (n ∷ []) [])) (states_gathered n (omega arith)) ∙ one_more_state n (omega arith))

@@ -97,13 +97,9 @@ impl<'a, S: Source> Sets<'a, S> {
         ensures { let m = S.meaning self.now.source.now in
             result ≡ word (count m) (line_holds m (sets_in self.now.words.now) (step_to action (parts_of parts.entry.bytes.now))) }
     {
-        let mut set = 0;
-        for state in 0..self.source.states() {
-            if self.takes(state, action, parts) {
-                set |= 1 << state;
-            }
-        }
-        set
+        (0..self.source.states())
+            .filter(|state| self.takes(*state, action, parts))
+            .fold(0, |set, state| set | 1 << state)
     }
 
     /// Where a line holds.
