@@ -13,10 +13,10 @@ and_swap true false false d = refl
 and_swap false b c d = refl
 
 -- numbers in two bytes and in four, as they are read
-abbrev pub in_two : List ℕ → ℕ
+abbrev in_two : List ℕ → ℕ
 in_two bs = get_or bs 0 0 * 256 + get_or bs 1 0
 
-abbrev pub in_four : List ℕ → ℕ
+abbrev in_four : List ℕ → ℕ
 in_four bs = get_or bs 0 0 * 16777216 + get_or bs 1 0 * 65536 + get_or bs 2 0 * 256 + get_or bs 3 0
 
 four_in_twos : (a b c d : ℕ) → (a * 256 + b) * 65536 + (c * 256 + d) ≡ a * 16777216 + b * 65536 + c * 256 + d

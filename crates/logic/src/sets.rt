@@ -52,7 +52,8 @@ impl<'a, S: Source> Sets<'a, S> {
 
     /// The set of a line that is named.
     fn named(&self, line: u16) -> u64
-        ensures { result ≡ word (count (S.meaning self.now.source.now)) (set_of (sets_in self.now.words.now) line) }
+        ensures { let m = S.meaning self.now.source.now in
+            result ≡ word (count m) (set_of (sets_in self.now.words.now) line) }
     {
         named(self.words, line, 0)
     }
@@ -69,7 +70,8 @@ impl<'a, S: Source> Sets<'a, S> {
 
     /// Whether at least k of m of a step's weight goes to the set of the part's line.
     fn part_holds(&self, state: usize, step: usize, part: Part) -> bool
-        ensures { result ≡ part_holds (sets_in self.now.words.now) (step_at (S.meaning self.now.source.now) state step) part }
+        ensures { let a = step_at (S.meaning self.now.source.now) state step in
+            result ≡ part_holds (sets_in self.now.words.now) a part }
     {
         let share = self.share(state, step, self.named(part.line));
         let total = self.source.total(state, step);
@@ -79,7 +81,8 @@ impl<'a, S: Source> Sets<'a, S> {
     /// Whether a step is one of the action, and every part holds of it.
     fn passes(&self, state: usize, step: usize, action: u8, mut parts: Values<Parts>) -> bool
         ensures { let a = step_at (S.meaning self.now.source.now) state step in
-            result ≡ ((a.action == action) && all (part_holds (sets_in self.now.words.now) a) (parts_of parts.entry.bytes.now)) }
+            result ≡ ((a.action == action)
+            && all (part_holds (sets_in self.now.words.now) a) (parts_of parts.entry.bytes.now)) }
     {
         self.source.action(state, step) == action
             && parts.all(|part| self.part_holds(state, step, part))
@@ -87,7 +90,9 @@ impl<'a, S: Source> Sets<'a, S> {
 
     /// Whether a state has a step of the action of which every part holds.
     fn takes(&self, state: usize, action: u8, parts: Values<Parts>) -> bool
-        ensures { result ≡ line_holds (S.meaning self.now.source.now) (sets_in self.now.words.now) (step_to action (parts_of parts.entry.bytes.now)) state }
+        ensures { let m = S.meaning self.now.source.now in
+            let line = step_to action (parts_of parts.entry.bytes.now) in
+            result ≡ line_holds m (sets_in self.now.words.now) line state }
     {
         (0..self.source.steps(state)).any(|step| self.passes(state, step, action, parts))
     }
@@ -95,7 +100,8 @@ impl<'a, S: Source> Sets<'a, S> {
     /// The states with such a step.
     fn takers(&self, action: u8, parts: Values<Parts>) -> u64
         ensures { let m = S.meaning self.now.source.now in
-            result ≡ word (count m) (line_holds m (sets_in self.now.words.now) (step_to action (parts_of parts.entry.bytes.now))) }
+            let line = step_to action (parts_of parts.entry.bytes.now) in
+            result ≡ word (count m) (line_holds m (sets_in self.now.words.now) line) }
     {
         (0..self.source.states())
             .filter(|state| self.takes(*state, action, parts))

@@ -50,15 +50,3 @@ loop-last-preserved g c =
       read_more c.loop-last.invariant.2 c.loop-last.count read here off,
       judged_more judged c.loop-last.count here (meant read.line) c.of_line.result c.depth.result w_is d_is room off.few,
     )
-
-pub shape_of-words : goal.shape_of-words
-shape_of-words g c = c.loop-last.invariant.3.size
-
-pub returns : goal.returns
-returns g c ls h =
-    let m : Model = g.S.Source.meaning c.args.source.now in
-    let none = eqb-true (length c.loop-last.rest.now) 0 (sym c.loop-last-test.ensures) in
-    let same : c.loop-last.invariant.0 ≡ ls = same_ok (sym (read_all c.loop-last.invariant.2 none) ∙ h) in (
-      ap Ok (c.loop-last.invariant.3.told ∙ ap (verdict m) same),
-      c.loop-last.invariant.3.in_front ∙ ap (λ done. words_after m (Ok done) c.args.words.now) same,
-    )
