@@ -5,8 +5,8 @@ use Rattle.std.specs.Iterator.{YieldsFirst}
 use Rattle.std.specs.Option.{option_map, unwrap_or}
 use Rattle.std.proofs.lemmas.Iterator.{YieldsList}
 use Rattle.std.proofs.lemmas.Iterator.Consumers.{YieldsList-from_first}
-use Rattle.std.proofs.lemmas.List.{get_or_default, length-map, same_lists}
-use Rattle.std.proofs.lemmas.List.FromFn.{get_or-map-range_with_len, length-range_with_len}
+use Rattle.std.proofs.lemmas.List.{get_or_default, same_lists}
+use Rattle.std.proofs.lemmas.List.FromFn.{get_or-map-range_with_len, length-map-range_with_len}
 use Rattle.std.proofs.lemmas.List.Sums.{sum_by-cons}
 use Rattle.fields.specs.declared.values.Values.{Values}
 use Rattle.model.specs.Lists.{all, any, greatest}
@@ -34,9 +34,10 @@ module _ {X : Type 0} (xs : List X) (d : X) where
   -- the elements at all places
   elements : map (λ i. get_or xs i d) (range_with_len 0 (length xs)) ≡ xs
   elements =
-      same_lists _ xs (length-map _ _ ∙ length-range_with_len 0 (length xs))
-      (λ k e h. get_or-map-range_with_len (λ i. get_or xs i d) 0 (length xs) k k e (omega (arith, length-map (range_with_len 0 (length xs)) (λ i. get_or xs i d), length-range_with_len 0 (length xs))) (omega arith)
-      ∙ get_or_default xs k d e (omega (arith, length-map (range_with_len 0 (length xs)) (λ i. get_or xs i d), length-range_with_len 0 (length xs))))
+      let at : ℕ → X = λ i. get_or xs i d in
+      let long : length (map at (range_with_len 0 (length xs))) ≡ length xs = length-map-range_with_len at 0 (length xs) in
+      same_lists _ xs long
+      (λ k e h. get_or-map-range_with_len at 0 (length xs) k k e (omega arith) (omega arith) ∙ get_or_default xs k d e (omega arith))
 
   any-map : {Y : Type 0} (p : X → Bool) (f : Y → X) (ys : List Y) → list_any (λ y. p (f y)) ys ≡ any p (map f ys)
   any-map p f [] = refl
@@ -45,18 +46,20 @@ module _ {X : Type 0} (xs : List X) (d : X) where
   pub any_place : (p : X → Bool) → list_any (λ i. p (get_or xs i d)) (range_with_len 0 (length xs)) ≡ any p xs
   any_place p = any-map p (λ i. get_or xs i d) (range_with_len 0 (length xs)) ∙ ap (any p) elements
 
-  sum-map-filter : {Y : Type 0} (w : X → ℕ) (p : X → Bool) (f : Y → X) (ys : List Y)
-      → sum_by (λ y. w (f y)) (filter (λ y. p (f y)) ys) ≡ sum_by w (filter p (map f ys))
-  sum-map-filter w p f [] = refl
-  sum-map-filter w p f (y ∷ ys) =
-      let more = sum-map-filter w p f ys in
-      let kept = sum_by-cons (λ y. w (f y)) y (filter (λ y. p (f y)) ys) in
-      let kept_there = sum_by-cons w (f y) (filter p (map f ys)) in
-      elim (p (f y)) as (λ b. sum_by (λ y. w (f y)) (cond b (y ∷ filter (λ y. p (f y)) ys) (filter (λ y. p (f y)) ys)) ≡ sum_by w (cond b (f y ∷ filter p (map f ys)) (filter p (map f ys)))) [
-        | true ↦ omega arith
-        | false ↦ more
-      ]
+  module _ (w : X → ℕ) (p : X → Bool) where
+    sum-map-filter : {Y : Type 0} (f : Y → X) (ys : List Y)
+        → sum_by (λ y. w (f y)) (filter (λ y. p (f y)) ys) ≡ sum_by w (filter p (map f ys))
+    sum-map-filter f [] = refl
+    sum-map-filter {Y} f (y ∷ ys) =
+        let more = sum-map-filter f ys in
+        let front : List Y = filter (λ z. p (f z)) ys in
+        let behind : List X = filter p (map f ys) in
+        let one = sum_by-cons (λ z. w (f z)) y front in
+        let other = sum_by-cons w (f y) behind in
+        elim (p (f y)) as (λ b. sum_by (λ z. w (f z)) (cond b (y ∷ front) front) ≡ sum_by w (cond b (f y ∷ behind) behind)) [
+          | true ↦ omega arith
+          | false ↦ more
+        ]
 
-  pub sum_places : (w : X → ℕ) (p : X → Bool)
-      → sum_by (λ i. w (get_or xs i d)) (filter (λ i. p (get_or xs i d)) (range_with_len 0 (length xs))) ≡ sum_by w (filter p xs)
-  sum_places w p = sum-map-filter w p (λ i. get_or xs i d) (range_with_len 0 (length xs)) ∙ ap (λ ys. sum_by w (filter p ys)) elements
+    pub sum_places : sum_by (λ i. w (get_or xs i d)) (filter (λ i. p (get_or xs i d)) (range_with_len 0 (length xs))) ≡ sum_by w (filter p xs)
+    sum_places = sum-map-filter (λ i. get_or xs i d) (range_with_len 0 (length xs)) ∙ ap (λ ys. sum_by w (filter p ys)) elements

@@ -42,10 +42,6 @@ parts_more (l ∷ i ∷ a ∷ b ∷ c ∷ d ∷ e ∷ f ∷ g ∷ h ∷ bytes) t
     ap₂ (λ k m. record { line = l * 256 + i; k = k; m = m } ∷ parts_of bytes) (four_in_twos a b c d) (four_in_twos e f g h)
 parts_more bytes ten = absurd (omega arith)
 
-pub and_true : (b : Bool) → (b && true) ≡ b
-and_true true = refl
-and_true false = refl
-
 -- the parts of a step-line that may stand behind i lines
 pub sound_parts : (i : ℕ) (qs : List Part) → all (sound_part i) qs ≡ (all (one_of_first i) (map (λ q. q.line) qs) && all sound_share qs)
 sound_parts i [] = refl

@@ -1,6 +1,7 @@
 -- Words of sets that are met or joined one after another, and the words that stand for some sets. Assumes nothing.
-use Rattle.std.proofs.Common.{◌≡◌, ℕ, zero, suc, ◌+◌, ◌*◌, ◌%◌, ◌≤◌, ◌++◌, cond, filter, inl, inr, ◌-◌, ◌^◌, ◌<◌, Bool, true, false, ◌&&◌, ◌||◌, eqb, List, [], ◌∷◌, map, get_or, sym, refl, ap, ◌∙◌, arith}
+use Rattle.std.proofs.Common.{◌≡◌, ℕ, zero, suc, ◌+◌, ◌*◌, ◌%◌, ◌≤◌, ◌++◌, cond, filter, inl, inr, ◌-◌, ◌^◌, ◌<◌, true, false, ◌&&◌, ◌||◌, eqb, List, [], ◌∷◌, map, get_or, sym, refl, ap, ◌∙◌, arith}
 use Rattle.std.specs.List.{fold, range_with_len}
+use Rattle.std.proofs.Math.Bool.{and-true, and_assoc, or-false, or_assoc}
 use Rattle.std.proofs.lemmas.Bool.{cases_Bool}
 use Rattle.std.proofs.lemmas.List.{map-id}
 use Rattle.std.proofs.lemmas.List.FromFn.{filter_of_map_range_with_len_more}
@@ -24,15 +25,18 @@ in_word (w ∷ words) zero s = refl
 in_word (w ∷ words) (suc i) s = in_word words i s
 
 -- the word of a line that is named
-pub word_named : (n : ℕ) (words : List ℕ) (i : ℕ) → get_or words (i - 1) 0 < 2 ^ n → get_or words (i - 1) 0 ≡ word n (set_of (sets_in words) i)
+pub word_named : (n : ℕ) (words : List ℕ) (i : ℕ) → get_or words (i - 1) 0 < 2 ^ n
+    → get_or words (i - 1) 0 ≡ word n (set_of (sets_in words) i)
 word_named n words i h =
-    sym (word_has n (get_or words (i - 1) 0) h) ∙ word_same n (has (get_or words (i - 1) 0)) (set_of (sets_in words) i) (λ s l. sym (in_word words (i - 1) s))
+    let w : ℕ = get_or words (i - 1) 0 in
+    sym (word_has n w h) ∙ word_same n (has w) (set_of (sets_in words) i) (λ s l. sym (in_word words (i - 1) s))
 
 -- some words that stand for sets
 module _ (n : ℕ) (sets : List StateSet) (words : List ℕ) (same : words ≡ map (word n) sets) where
   word_at : (i : ℕ) → get_or words i 0 ≡ word n (get_or sets i nowhere)
   word_at i =
-      ap (λ ws. get_or ws i 0) same ∙ ap (get_or (map (word n) sets) i) (sym (word_nowhere n)) ∙ get_or_map_default (word n) sets i nowhere
+      ap (λ ws. get_or ws i 0) same ∙ ap (get_or (map (word n) sets) i) (sym (word_nowhere n))
+      ∙ get_or_map_default (word n) sets i nowhere
 
   pub words_below : (i : ℕ) → get_or words i 0 < 2 ^ n
   words_below i = omega (arith, word_at i, word_below n (get_or sets i nowhere))
@@ -43,30 +47,14 @@ module _ (n : ℕ) (sets : List StateSet) (words : List ℕ) (same : words ≡ m
 
 -- the words of the lines that are named, each met with those before it or joined to them
 module _ (n : ℕ) (F : ℕ → StateSet) where
-  and_assoc : (a b c : Bool) → (a && b && c) ≡ (a && (b && c))
-  and_assoc true b c = refl
-  and_assoc false b c = refl
-
-  or_assoc : (a b c : Bool) → (a || b || c) ≡ (a || (b || c))
-  or_assoc true b c = refl
-  or_assoc false b c = refl
-
-  and_true : (b : Bool) → b ≡ (b && true)
-  and_true true = refl
-  and_true false = refl
-
-  or_false : (b : Bool) → b ≡ (b || false)
-  or_false true = refl
-  or_false false = refl
-
   met : (X : StateSet) (is : List ℕ) → fold (λ w i. bit_and w (word n (F i))) (word n X) is ≡ word n (λ s. X s && all (λ i. F i s) is)
-  met X [] = word_same n X (λ s. X s && true) (λ s l. and_true (X s))
+  met X [] = word_same n X (λ s. X s && true) (λ s l. sym (and-true (X s)))
   met X (i ∷ is) =
       ap (λ w. fold (λ v j. bit_and v (word n (F j))) w is) (sym (word_and n X (F i))) ∙ met (λ s. X s && F i s) is
       ∙ word_same n _ _ (λ s l. and_assoc (X s) (F i s) (all (λ j. F j s) is))
 
   joined : (X : StateSet) (is : List ℕ) → fold (λ w i. bit_or w (word n (F i))) (word n X) is ≡ word n (λ s. X s || any (λ i. F i s) is)
-  joined X [] = word_same n X (λ s. X s || false) (λ s l. or_false (X s))
+  joined X [] = word_same n X (λ s. X s || false) (λ s l. sym (or-false (X s)))
   joined X (i ∷ is) =
       ap (λ w. fold (λ v j. bit_or v (word n (F j))) w is) (sym (word_or n X (F i))) ∙ joined (λ s. X s || F i s) is
       ∙ word_same n _ _ (λ s l. or_assoc (X s) (F i s) (any (λ j. F j s) is))
@@ -85,11 +73,13 @@ module _ (X : StateSet) where
   one_more_state : (n : ℕ) → n < 64 → fold with_state (word n X) (cond (X n) (n ∷ []) []) ≡ word (n + 1) X
   one_more_state n low =
       elim (cases_Bool (X n)) [
-        | inl h ↦ ap (λ b. fold with_state (word n X) (cond b (n ∷ []) [])) h ∙ ap (bit_or (word n X)) (one_shl n 64 low) ∙ or_bit n X (sym h)
+        | inl h ↦ ap (λ b. fold with_state (word n X) (cond b (n ∷ []) [])) h ∙ ap (bit_or (word n X)) (one_shl n 64 low)
+            ∙ or_bit n X (sym h)
         | inr h ↦ ap (λ b. fold with_state (word n X) (cond b (n ∷ []) [])) h ∙ word_suc n X (sym h)
       ]
 
-  pub states_gathered : (n : ℕ) → n ≤ 64 → fold (λ w s. bit_or w (1 * 2 ^ s % 2 ^ 64)) 0 (filter X (range_with_len 0 n)) ≡ word n X
+  pub states_gathered : (n : ℕ) → n ≤ 64
+      → fold (λ w s. bit_or w (1 * 2 ^ s % 2 ^ 64)) 0 (filter X (range_with_len 0 n)) ≡ word n X
   states_gathered zero h = refl
   states_gathered (suc n) h =
       let more : filter X (range_with_len 0 (n + 1)) ≡ filter X (range_with_len 0 n) ++ cond (X n) (n ∷ []) [] =

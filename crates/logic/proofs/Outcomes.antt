@@ -1,13 +1,10 @@
 -- Which sentence is judged. Assumes nothing.
-use Rattle.std.proofs.Common.{◌≡◌, ℕ, ◌<◌, ◌≤◌, true, List, length, Ok, Err, Result, refl, ap, ◌∙◌, arith}
-use Rattle.std.proofs.lemmas.Bool.{eq-eqb, le-leb, lt-leb, ne_eqb}
+use Rattle.std.proofs.Common.{◌≡◌, ℕ, true, List, length, Ok, Err, Result, refl, ap, ◌∙◌}
 use Rattle.fields.specs.declared.fault.FileFault.{FileFault}
-use Rattle.model.specs.Model.{Model, count}
 use Rattle.theory.specs.Sentences.{Line, well_formed}
 use Rattle.logic.specs.File.{sentence_file}
-use Rattle.logic.specs.Judging.{counted, judged}
+use Rattle.logic.specs.Judging.{counted}
 use Rattle.logic.specs.Writing.{fits_file, sentence_bytes}
-use Rattle.logic.specs.declared.fault.JudgeFault.TheVariants.{File, Void, Words}
 use Rattle.logic.proofs.RoundTrip.{round_trip}
 
 -- what a count of lines was counted from

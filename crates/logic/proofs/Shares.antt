@@ -21,7 +21,8 @@ share_at_most X a =
 
 -- summed branch by branch
 pub share_by_branch : (X : StateSet) (a : Step)
-    → sum_by (λ j. (get_or a.branches j no_branch).weight) (filter (λ j. X (get_or a.branches j no_branch).target) (range_with_len 0 (length a.branches))) ≡ share X a
+    → let at : ℕ → Branch = λ j. get_or a.branches j no_branch in
+    sum_by (λ j. (at j).weight) (filter (λ j. X (at j).target) (range_with_len 0 (length a.branches))) ≡ share X a
 share_by_branch X a = sum_places a.branches no_branch (λ b. b.weight) (in_set X)
 
 module _ (m : Model) (law : lawful m ≡ true) (s i : ℕ) where

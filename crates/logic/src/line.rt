@@ -21,7 +21,7 @@ const ACTIONS: u8 = 32;
 /// The largest m of a part.
 const WHOLE: u32 = 1_000_000_000;
 
-/// A line, over the bytes of its field.
+/// A line; the lines and the parts that it names are read off the bytes of its field.
 #[derive(Clone, Copy)]
 pub enum Line<'a> {
     Not(u16),

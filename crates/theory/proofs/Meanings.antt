@@ -4,11 +4,11 @@ use Rattle.std.specs.List.{AllByRecursion as All}
 use Rattle.std.proofs.ByRecursion.{All-weaker}
 use Rattle.std.proofs.lemmas.List.{get_or_push, length_push}
 use Rattle.std.proofs.lemmas.Bool.{and_parts}
-use Rattle.model.specs.Lists.{all, greatest}
+use Rattle.model.specs.Lists.{greatest}
 use Rattle.model.specs.Model.{Model, Step, steps_of, total}
 use Rattle.theory.specs.Laws.{LinesMean}
 use Rattle.theory.specs.Sentences.{all_of, any_of, Line, not_of, StateSet, step_to, depth_at, depths_from, depths_of, fits_after, line_depth}
-use Rattle.theory.specs.Sentences.{line_holds, names, nowhere, own_depth, part_holds, set_of, sets_from, sets_of, share, well_formed_from}
+use Rattle.theory.specs.Sentences.{line_holds, names, nowhere, own_depth, part_holds, set_of, sets_from, sets_of, well_formed_from}
 use Rattle.theory.specs.declared.Part.{Part}
 use Rattle.theory.proofs.Tests.{all_always, all_same, all_unmap, any_same, map_same, share_same}
 use Rattle.theory.proofs.Texts.{names_between, run_keeps}

@@ -1,15 +1,13 @@
 -- Assumes nothing.
-use Rattle.std.proofs.Common.{◌≡◌, [], ◌∷◌, ◌++◌, length, Ok, sym, refl, ap, ◌∙◌, ap₂, arith}
+use Rattle.std.proofs.Common.{◌≡◌, [], ◌∷◌, ◌++◌, length, refl, ap, ◌∙◌, ap₂, arith}
 use native.Mathlib.Nat.{sub-zero}
 use Rattle.std.proofs.lemmas.List.{length_push}
-use Rattle.std.proofs.lemmas.Bool.{eqb-true}
 use Rattle.model.specs.Model.{Model, count}
 use Rattle.theory.specs.Sentences.{depths_of, line_depth, line_holds, sets_of}
-use Rattle.logic.specs.Judging.{verdict, words_after}
 use Rattle.logic.specs.Lines.{meant}
 use Rattle.logic.specs.Words.{sets_in, word}
 use Rattle.logic.proofs.Judging.{depths_done, depths_low, judged_more, judged_none, line_told, words_low}
-use Rattle.logic.proofs.Progress.{read_all, read_more, read_none, read_room, same_ok}
+use Rattle.logic.proofs.Progress.{read_more, read_none, read_room}
 use Rattle.logic.proofs.judge.evaluate.Goals as goal
 
 pub loop-last-init : goal.loop-last-init

@@ -1,5 +1,6 @@
 -- Assumes nothing.
 use Rattle.std.proofs.Common.{◌∙◌, arith, rules, tests}
+use Rattle.std.proofs.Math.Bool.{and-true}
 use Rattle.std.proofs.lemmas.Bool.{lt-ltb}
 use Rattle.std.proofs.lemmas.Iterator.Search.{all_from_yields_List}
 use Rattle.fields.specs.Bytes.{numbers}
@@ -7,7 +8,7 @@ use Rattle.theory.specs.Sentences.{one_of_first}
 use Rattle.logic.specs.File.{parts_of}
 use Rattle.logic.specs.Lines.{sound_part}
 use Rattle.logic.proofs.Chains.{all_is, held_in_turn}
-use Rattle.logic.proofs.Fronts.{and_true, sound_parts}
+use Rattle.logic.proofs.Fronts.{sound_parts}
 use Rattle.logic.proofs.line.Line.fits_after.Goals as goal
 use Rattle.logic.proofs.line.Line.fits_after.Goals.{in-All, in-All-2}
 
@@ -23,4 +24,4 @@ returns-in-All c =
     let told = all_from_yields_List (one_of_first c.args.before) c.all-in-All.new.self _ c.all-in-All.result c.all-in-All.ensures.ran
     (held_in_turn numbers _) (λ x b q k. search (rules, tests)) in
     let same = rw all_is at told in
-    grind (arith, and_true)
+    grind (arith, and-true)
