@@ -1,22 +1,16 @@
 -- How far a sentence file is read: the lines done, and the bytes that are left. Assumes nothing.
-use Rattle.std.proofs.Common.{◌≡◌, ℕ, ◌+◌, ◌<◌, ◌≤◌, false, eqb, List, [], ◌∷◌, ◌++◌, length, Ok, Err, Result, sym, refl, ap, ◌∙◌, arith}
-use Rattle.std.proofs.lemmas.List.{nil_from_length}
+use Rattle.std.proofs.Common.{◌≡◌, ℕ, ◌+◌, ◌<◌, ◌≤◌, false, eqb, List, [], ◌∷◌, ◌++◌, length, Ok, Result, sym, refl, ◌∙◌, arith}
 use Rattle.std.proofs.lemmas.Bool.{eqb-false}
 use Rattle.fields.specs.Fields.{in_turn, starts}
-use Rattle.fields.specs.declared.fault.FileFault.{FileFault}
 use Rattle.theory.specs.Sentences.{Line}
-use Rattle.logic.specs.File.{line_at, line_field, lines_in, sentence_file}
+use Rattle.logic.specs.File.{line_field, lines_in, sentence_file}
 use Rattle.logic.specs.Lines.{ReadOff, meant}
 use Rattle.logic.specs.declared.line.LineRead.{LineRead}
 use Rattle.logic.proofs.Files.{in_turn_longer}
-use Rattle.logic.proofs.Turns.{turn_line, turn_refused}
-
-pub sentence_is_lines : (bytes : List ℕ) → 0 < length bytes → sentence_file bytes ≡ lines_in bytes
-sentence_is_lines [] h = absurd (omega arith)
-sentence_is_lines (_ ∷ _) h = refl
+use Rattle.logic.proofs.Turns.{turn_line}
 
 pub lines_of_sentence : (bytes : List ℕ) (ls : List Line) → sentence_file bytes ≡ Ok ls → lines_in bytes ≡ Ok ls
-lines_of_sentence [] ls h = absurd (let z : ◌≡◌ {A = ℕ} 0 1 = cc in omega arith)
+lines_of_sentence [] ls h = absurd (cc)
 lines_of_sentence (_ ∷ _) ls h = h
 
 -- the lines done, and those in the rest of the bytes, are the file's
@@ -28,18 +22,11 @@ pub read_none : (bytes : List ℕ) → ReadTo bytes [] 0 bytes
 read_none bytes = record { turn = refl; whole = omega arith }
 
 module _ {bytes : List ℕ} {done : List Line} {place : ℕ} {rest : List ℕ} (read : ReadTo bytes done place rest) where
-  pub read_all : length rest ≡ 0 → lines_in bytes ≡ Ok done
-  read_all h = sym read.turn ∙ ap (λ bs. in_turn line_field done (starts 0 place bs)) (nil_from_length rest h)
-
   pub read_more : (i : ℕ) (l : LineRead) → length done ≡ i → ReadOff i place rest l → ReadTo bytes (done ++ meant l.line ∷ []) l.place l.rest.now
   read_more i l e off = record {
     turn = sym (turn_line done place rest (meant l.line) _ off.next (rw e off.line)) ∙ read.turn;
     whole = omega (arith, off.whole, read.whole);
   }
-
-  pub read_refused : (i : ℕ) (e : FileFault) → length done ≡ i → 0 < length rest → line_at i (record { place = place; bytes = rest }) ≡ Err e
-      → lines_in bytes ≡ Err e
-  read_refused i e same some h = sym read.turn ∙ turn_refused done place rest e some (rw same h)
 
   -- where a line is still to come, and there is room for all, there is room for it
   pub read_room : (i room : ℕ) → length done ≡ i → false ≡ eqb (length rest) 0

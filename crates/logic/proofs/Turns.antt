@@ -1,10 +1,9 @@
 -- How the lines of a sentence file take their turns, and how a written line takes its own. Assumes nothing.
-use Rattle.std.proofs.Common.{◌≡◌, ℕ, ◌+◌, ◌%◌, ◌<◌, ◌≤◌, true, List, [], ◌∷◌, ◌++◌, length, Ok, Err, refl, ap, ◌∙◌, arith}
+use Rattle.std.proofs.Common.{◌≡◌, ℕ, ◌+◌, ◌%◌, ◌<◌, ◌≤◌, true, List, [], ◌∷◌, ◌++◌, length, Ok, refl, ap, ◌∙◌, arith}
 use Rattle.std.specs.List.{flat_map}
 use Rattle.std.proofs.lemmas.List.{drop_at, length-append, take_at}
 use Rattle.std.proofs.lemmas.Bool.{eq-eqb, le-leb, lt-ltb}
 use Rattle.fields.specs.Fields.{Start, field_of, in_turn, starts}
-use Rattle.fields.specs.declared.fault.FileFault.{FileFault}
 use Rattle.fields.proofs.Starts.{field_taken}
 use Rattle.theory.specs.Sentences.{all_of, any_of, Line, not_of, step_to, fits_after}
 use Rattle.logic.specs.File.{line_at, line_field, line_of}
@@ -18,12 +17,6 @@ pub turn_line : (ls : List Line) (place : ℕ) (bytes : List ℕ) (l : Line) (re
     → line_at (length ls) (record { place = place; bytes = bytes }) ≡ Ok l
     → in_turn line_field ls (starts 0 place bytes) ≡ in_turn line_field (ls ++ l ∷ []) rest
 turn_line ls place bytes l rest e h = ap (in_turn line_field ls) e ∙ rw h
-
--- a line that is refused refuses all
-pub turn_refused : (ls : List Line) (place : ℕ) (bytes : List ℕ) (e : FileFault) → 0 < length bytes
-    → line_at (length ls) (record { place = place; bytes = bytes }) ≡ Err e → in_turn line_field ls (starts 0 place bytes) ≡ Err e
-turn_refused ls place [] e some h = absurd (omega arith)
-turn_refused ls place (_ ∷ _) e some h = rw h
 
 line_of_written : (l : Line) → line_of (tag_of l) (value_of l) ≡ l
 line_of_written (not_of i) = ap not_of (two_bytes_give i)
