@@ -51,6 +51,7 @@ impl<'a, P: Packing> Iterator for Values<'a, P> {
 }
 
 /// Numbers of two bytes each, the high byte first.
+#[derive(Clone, Copy)]
 pub struct Numbers;
 
 impl Packing for Numbers {

@@ -9,18 +9,15 @@ use Rattle.logic.specs.File.{line_at, line_behind, line_field, line_of, sentence
 use Rattle.logic.specs.Format.{allowed_line, due_line}
 
 module _ {T E : Type 0} where
-  err_is_no_ok : {e : E} {x : T} → ◌≡◌ {A = Result T E} (Err e) (Ok x) → ⊥
-  err_is_no_ok h = let z : ◌≡◌ {A = ℕ} 0 1 = cc in omega arith
-
   -- what is no fault passed its test
   passed : (b : Bool) (r : Result T E) (e : E) (x : T) → cond b r (Err e) ≡ Ok x → (b ≡ true) × (r ≡ Ok x)
   passed true r e x h = (refl, h)
-  passed false r e x h = absurd (err_is_no_ok h)
+  passed false r e x h = absurd (cc)
 
   -- and came after what was no fault
   came_after : {U : Type 0} (r : Result U E) (k : U → Result T E) (y : T) → then r k ≡ Ok y → (x : U) × (r ≡ Ok x) × (k x ≡ Ok y)
   came_after (Ok x) k y h = (x, refl, h)
-  came_after (Err e) k y h = absurd (err_is_no_ok h)
+  came_after (Err e) k y h = absurd (cc)
 
 line_behind_fits : (i place : ℕ) (l r : Line) → line_behind i place l ≡ Ok r → fits_after i r ≡ true
 line_behind_fits i place l r h =
@@ -61,7 +58,7 @@ in_turn_well_formed done ls (x ∷ xs) formed h =
     in_turn_well_formed p.0 ls xs (rw q.2 at (well_formed_push done q.0 formed q.1)) p.2
 
 pub file_is_well_formed : (bytes : List ℕ) (ls : List Line) → sentence_file bytes ≡ Ok ls → well_formed ls ≡ true
-file_is_well_formed [] ls h = absurd (err_is_no_ok h)
+file_is_well_formed [] ls h = absurd (cc)
 file_is_well_formed (b ∷ bytes) ls h =
     let xs : List Start = starts 0 0 (b ∷ bytes) in
     let some : 0 < length ls = omega (arith, in_turn_longer [] ls xs h) in

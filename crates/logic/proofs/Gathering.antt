@@ -1,77 +1,89 @@
--- Words of sets that are met or joined one after another. Assumes nothing.
-use Rattle.std.proofs.Common.{◌≡◌, ℕ, ◌-◌, Bool, true, false, ◌&&◌, ◌||◌, List, [], ◌∷◌, map, get_or, sym, refl, ap, ◌∙◌, ap₂}
+-- Words of sets that are met or joined one after another, and the words that stand for some sets. Assumes nothing.
+use Rattle.std.proofs.Common.{◌≡◌, ℕ, zero, suc, ◌+◌, ◌*◌, ◌%◌, ◌≤◌, ◌++◌, cond, filter, inl, inr, ◌-◌, ◌^◌, ◌<◌, true, false, ◌&&◌, ◌||◌, eqb, List, [], ◌∷◌, map, get_or, sym, refl, ap, ◌∙◌, arith}
+use Rattle.std.specs.List.{fold, range_with_len}
+use Rattle.std.proofs.Math.Bool.{and-true, and_assoc, or-false, or_assoc}
+use Rattle.std.proofs.lemmas.Bool.{cases_Bool}
+use Rattle.std.proofs.lemmas.List.{map-id}
+use Rattle.std.proofs.lemmas.List.FromFn.{filter_of_map_range_with_len_more}
+use Rattle.std.proofs.lemmas.List.Sums.{fold-append}
+use Rattle.std.proofs.lemmas.Nat.{one_shl}
+use Rattle.std.proofs.lemmas.Nat.Bits.{bit_at-zero}
 use lib.Bits.{bit_and, bit_or}
 use Rattle.model.specs.Lists.{all, any}
 use Rattle.model.proofs.Elements.{get_or_map_default}
 use Rattle.theory.specs.Sentences.{StateSet, nowhere, set_of}
-use Rattle.logic.specs.Words.{word}
-use Rattle.logic.proofs.Words.{word_and, word_nowhere, word_or, word_same}
+use Rattle.logic.specs.Words.{has, sets_in, word}
+use Rattle.logic.proofs.Words.{has_word, or_bit, word_and, word_below, word_has, word_nowhere, word_or, word_same, word_suc}
+
+has_zero : (s : ℕ) → has 0 s ≡ false
+has_zero s = ap (λ b. eqb b 1) (bit_at-zero s)
+
+-- the set of a line is that of its word
+in_word : (words : List ℕ) (i s : ℕ) → get_or (sets_in words) i nowhere s ≡ has (get_or words i 0) s
+in_word [] i s = sym (has_zero s)
+in_word (w ∷ words) zero s = refl
+in_word (w ∷ words) (suc i) s = in_word words i s
 
 -- the word of a line that is named
-pub word_named : (n : ℕ) (sets : List StateSet) (words : List ℕ) (i : ℕ) → words ≡ map (word n) sets
-    → get_or words (i - 1) 0 ≡ word n (set_of sets i)
-word_named n sets words i h =
-    ap (λ ws. get_or ws (i - 1) 0) h ∙ ap (get_or (map (word n) sets) (i - 1)) (sym (word_nowhere n)) ∙ get_or_map_default (word n) sets (i - 1) nowhere
+pub word_named : (n : ℕ) (words : List ℕ) (i : ℕ) → get_or words (i - 1) 0 < 2 ^ n
+    → get_or words (i - 1) 0 ≡ word n (set_of (sets_in words) i)
+word_named n words i h =
+    let w : ℕ = get_or words (i - 1) 0 in
+    sym (word_has n w h) ∙ word_same n (has w) (set_of (sets_in words) i) (λ s l. sym (in_word words (i - 1) s))
 
--- Where the sets of the lines that are left are met with a word, or joined to it, it becomes that of the whole list of lines.
-abbrev Gathers : (Bool → Bool → Bool) → (StateSet → List ℕ → Bool) → List StateSet → ℕ → ℕ → List ℕ → List ℕ → Type 0
-Gathers on test sets n set left whole =
-    (X : StateSet) × (set ≡ word n X) × ((s : ℕ) → on (X s) (test (λ i. set_of sets i s) left) ≡ test (λ i. set_of sets i s) whole)
+-- some words that stand for sets
+module _ (n : ℕ) (sets : List StateSet) (words : List ℕ) (same : words ≡ map (word n) sets) where
+  word_at : (i : ℕ) → get_or words i 0 ≡ word n (get_or sets i nowhere)
+  word_at i =
+      ap (λ ws. get_or ws i 0) same ∙ ap (get_or (map (word n) sets) i) (sym (word_nowhere n))
+      ∙ get_or_map_default (word n) sets i nowhere
 
-module _ (on : Bool → Bool → Bool) (op : ℕ → ℕ → ℕ) (test : (ℕ → Bool) → List ℕ → Bool)
-    (word_on : (n : ℕ) (X Y : StateSet) → word n (λ s. on (X s) (Y s)) ≡ op (word n X) (word n Y))
-    (assoc : (a b c : Bool) → on (on a b) c ≡ on a (on b c))
-    (test-more : (p : ℕ → Bool) (i : ℕ) (is : List ℕ) → test p (i ∷ is) ≡ on (p i) (test p is))
-    (test-none : (p : ℕ → Bool) (b : Bool) → on b (test p []) ≡ b) where
-  gathers_more : (sets : List StateSet) (n set w i : ℕ) (is left whole : List ℕ)
-      → left ≡ i ∷ is → w ≡ word n (set_of sets i) → Gathers on test sets n set left whole → Gathers on test sets n (op set w) is whole
-  gathers_more sets n set w i is left whole more e (X, same, all) = (
-    (λ s. on (X s) (set_of sets i s)),
-    ap₂ op same e ∙ sym (word_on n X (set_of sets i)),
-    (λ s. assoc (X s) (set_of sets i s) (test (λ j. set_of sets j s) is)
-        ∙ ap (on (X s)) (sym (test-more (λ j. set_of sets j s) i is))
-        ∙ ap (λ js. on (X s) (test (λ j. set_of sets j s) js)) (sym more) ∙ all s),
-  )
+  pub words_below : (i : ℕ) → get_or words i 0 < 2 ^ n
+  words_below i = omega (arith, word_at i, word_below n (get_or sets i nowhere))
 
-  gathers_all : (sets : List StateSet) (n set : ℕ) (left whole : List ℕ) → left ≡ []
-      → Gathers on test sets n set left whole → set ≡ word n (λ s. test (λ i. set_of sets i s) whole)
-  gathers_all sets n set left whole none (X, same, all) =
-      same ∙ word_same n X (λ s. test (λ i. set_of sets i s) whole)
-      (λ s h. sym (test-none (λ i. set_of sets i s) (X s)) ∙ ap (λ js. on (X s) (test (λ j. set_of sets j s) js)) (sym none) ∙ all s)
+  pub words_alike : (i s : ℕ) → s < n → set_of (sets_in words) i s ≡ set_of sets i s
+  words_alike i s l =
+      in_word words (i - 1) s ∙ ap (λ w. has w s) (word_at (i - 1)) ∙ has_word n (get_or sets (i - 1) nowhere) s l
 
-and_assoc : (a b c : Bool) → (a && b && c) ≡ (a && (b && c))
-and_assoc true b c = refl
-and_assoc false b c = refl
+-- the words of the lines that are named, each met with those before it or joined to them
+module _ (n : ℕ) (F : ℕ → StateSet) where
+  met : (X : StateSet) (is : List ℕ) → fold (λ w i. bit_and w (word n (F i))) (word n X) is ≡ word n (λ s. X s && all (λ i. F i s) is)
+  met X [] = word_same n X (λ s. X s && true) (λ s l. sym (and-true (X s)))
+  met X (i ∷ is) =
+      ap (λ w. fold (λ v j. bit_and v (word n (F j))) w is) (sym (word_and n X (F i))) ∙ met (λ s. X s && F i s) is
+      ∙ word_same n _ _ (λ s l. and_assoc (X s) (F i s) (all (λ j. F j s) is))
 
-or_assoc : (a b c : Bool) → (a || b || c) ≡ (a || (b || c))
-or_assoc true b c = refl
-or_assoc false b c = refl
+  joined : (X : StateSet) (is : List ℕ) → fold (λ w i. bit_or w (word n (F i))) (word n X) is ≡ word n (λ s. X s || any (λ i. F i s) is)
+  joined X [] = word_same n X (λ s. X s || false) (λ s l. sym (or-false (X s)))
+  joined X (i ∷ is) =
+      ap (λ w. fold (λ v j. bit_or v (word n (F j))) w is) (sym (word_or n X (F i))) ∙ joined (λ s. X s || F i s) is
+      ∙ word_same n _ _ (λ s l. or_assoc (X s) (F i s) (any (λ j. F j s) is))
 
-and_true : (b : Bool) → (b && true) ≡ b
-and_true true = refl
-and_true false = refl
+  pub met_all : (is : List ℕ) → fold (λ w i. bit_and w (word n (F i))) (word n (λ s. true)) is ≡ word n (λ s. all (λ i. F i s) is)
+  met_all = met (λ s. true)
 
-or_false : (b : Bool) → (b || false) ≡ b
-or_false true = refl
-or_false false = refl
+  pub joined_all : (is : List ℕ) → fold (λ w i. bit_or w (word n (F i))) 0 is ≡ word n (λ s. any (λ i. F i s) is)
+  joined_all is = ap (λ w. fold (λ v j. bit_or v (word n (F j))) w is) (sym (word_nowhere n)) ∙ joined nowhere is
 
-abbrev pub Meets : List StateSet → ℕ → ℕ → List ℕ → List ℕ → Type 0
-Meets = Gathers (λ a b. a && b) all
+-- a word is gathered from the bits of the states that its set has
+module _ (X : StateSet) where
+  abbrev with_state : ℕ → ℕ → ℕ
+  with_state w s = bit_or w (1 * 2 ^ s % 2 ^ 64)
 
-abbrev pub Joins : List StateSet → ℕ → ℕ → List ℕ → List ℕ → Type 0
-Joins = Gathers (λ a b. a || b) any
+  one_more_state : (n : ℕ) → n < 64 → fold with_state (word n X) (cond (X n) (n ∷ []) []) ≡ word (n + 1) X
+  one_more_state n low =
+      elim (cases_Bool (X n)) [
+        | inl h ↦ ap (λ b. fold with_state (word n X) (cond b (n ∷ []) [])) h ∙ ap (bit_or (word n X)) (one_shl n 64 low)
+            ∙ or_bit n X (sym h)
+        | inr h ↦ ap (λ b. fold with_state (word n X) (cond b (n ∷ []) [])) h ∙ word_suc n X (sym h)
+      ]
 
-module _ (sets : List StateSet) (n set : ℕ) (left whole : List ℕ) where
-  pub meets_more : (w i : ℕ) (is : List ℕ) → left ≡ i ∷ is → w ≡ word n (set_of sets i)
-      → Meets sets n set left whole → Meets sets n (bit_and set w) is whole
-  meets_more w i is = gathers_more (λ a b. a && b) bit_and all word_and and_assoc (λ p i is. refl) (λ p. and_true) sets n set w i is left whole
-
-  pub meets_all : left ≡ [] → Meets sets n set left whole → set ≡ word n (λ s. all (λ i. set_of sets i s) whole)
-  meets_all = gathers_all (λ a b. a && b) bit_and all word_and and_assoc (λ p i is. refl) (λ p. and_true) sets n set left whole
-
-  pub joins_more : (w i : ℕ) (is : List ℕ) → left ≡ i ∷ is → w ≡ word n (set_of sets i)
-      → Joins sets n set left whole → Joins sets n (bit_or set w) is whole
-  joins_more w i is = gathers_more (λ a b. a || b) bit_or any word_or or_assoc (λ p i is. refl) (λ p. or_false) sets n set w i is left whole
-
-  pub joins_all : left ≡ [] → Joins sets n set left whole → set ≡ word n (λ s. any (λ i. set_of sets i s) whole)
-  joins_all = gathers_all (λ a b. a || b) bit_or any word_or or_assoc (λ p i is. refl) (λ p. or_false) sets n set left whole
+  pub states_gathered : (n : ℕ) → n ≤ 64
+      → fold (λ w s. bit_or w (1 * 2 ^ s % 2 ^ 64)) 0 (filter X (range_with_len 0 n)) ≡ word n X
+  states_gathered zero h = refl
+  states_gathered (suc n) h =
+      let more : filter X (range_with_len 0 (n + 1)) ≡ filter X (range_with_len 0 n) ++ cond (X n) (n ∷ []) [] =
+      simp map-id at (filter_of_map_range_with_len_more X (λ s. s) 0 n n (omega arith)) in
+      let e : n + 1 ≡ suc n = omega arith in
+      rw e at (ap (fold with_state 0) more ∙ fold-append with_state 0 (filter X (range_with_len 0 n)) (cond (X n) (n ∷ []) [])
+      ∙ ap (λ w. fold with_state w (cond (X n) (n ∷ []) [])) (states_gathered n (omega arith)) ∙ one_more_state n (omega arith))

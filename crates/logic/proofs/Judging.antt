@@ -1,15 +1,17 @@
 -- How far a sentence is judged: the words and the depths of the lines done, and the last one's verdict. Assumes nothing.
-use Rattle.std.proofs.Common.{◌≡◌, ℕ, ◌+◌, ◌-◌, ◌<◌, List, [], ◌∷◌, ◌++◌, map, length, get_or, take, drop, set, replicate, Ok, sym, refl, ap, ◌∙◌, ap₂, arith}
+use Rattle.std.proofs.Common.{◌≡◌, ℕ, ◌+◌, ◌-◌, ◌^◌, ◌<◌, true, List, [], ◌∷◌, ◌++◌, map, length, get_or, take, drop, set, replicate, Ok, sym, refl, ap, ◌∙◌, ap₂, arith}
 use Rattle.std.specs.List.{AllByRecursion as All}
 use Rattle.std.proofs.ByRecursion.{All-weaker}
 use Rattle.std.proofs.lemmas.List.{append_assoc, drop_more, get_or_push, length-map, length_push, length-set, length-replicate, map_push, set_at, take_at, take_more_set}
-use Rattle.model.specs.Model.{Model, count}
+use Rattle.model.specs.Model.{Model, count, lawful}
 use Rattle.theory.specs.Sentences.{Line, StateSet, depth, depths_of, holds, line_depth, line_holds, nowhere, sets_of}
 use Rattle.theory.proofs.Texts.{depth_at_most, depths_push, length_depths, length_sets, sets_push}
 use Rattle.logic.specs.Judging.{verdict, words_after}
-use Rattle.logic.specs.Words.{word}
+use Rattle.logic.specs.Words.{sets_in, word}
 use Rattle.logic.specs.declared.fault.Verdict.{Verdict}
-use Rattle.logic.proofs.Words.{word_nowhere}
+use Rattle.logic.proofs.Alike.{lines_alike}
+use Rattle.logic.proofs.Gathering.{words_alike, words_below}
+use Rattle.logic.proofs.Words.{word_nowhere, word_same}
 
 pub record JudgedTo (m : Model) (before : List ℕ) (done : List Line) (words depths : List ℕ) (last : Verdict) : Type 0 where
   pub in_front : words ≡ words_after m (Ok done) before
@@ -40,8 +42,18 @@ module _ {m : Model} {before : List ℕ} {done : List Line} {words depths : List
   in_front_here = judged.in_front ∙ ap (λ k. W ++ drop k before) here
 
   -- the words and the depths of the lines done
-  pub words_done : take i words ≡ W
+  words_done : take i words ≡ W
   words_done = ap (take i) in_front_here ∙ take_at W (drop i before) i length_words
+
+  pub words_low : (k : ℕ) → get_or (take i words) k 0 < 2 ^ count m
+  words_low = words_below (count m) (sets_of m done) (take i words) words_done
+
+  -- what the words say of a line is what the sets say
+  pub line_told : lawful m ≡ true → (l : Line)
+      → word (count m) (line_holds m (sets_in (take i words)) l) ≡ word (count m) (line_holds m (sets_of m done) l)
+  line_told law l =
+      let alike = words_alike (count m) (sets_of m done) (take i words) words_done in
+      word_same (count m) _ _ (lines_alike m law (sets_in (take i words)) (sets_of m done) alike l)
 
   pub depths_done : take i depths ≡ depths_of done
   depths_done = ap (λ k. take k depths) (sym here) ∙ judged.deep

@@ -3,7 +3,8 @@ use Rattle.std.proofs.Common.{◌≡◌, ℕ, ◌+◌, ◌*◌, ◌/◌, ◌%◌
 use Rattle.std.specs.List.{flat_map, AllByRecursion as All}
 use Rattle.std.proofs.ByRecursion.{All-append}
 use Rattle.theory.specs.declared.Part.{Part}
-use Rattle.logic.specs.File.{numbers, parts_of}
+use Rattle.fields.specs.Bytes.{numbers}
+use Rattle.logic.specs.File.{parts_of}
 use Rattle.logic.specs.Writing.{four, part_bytes, two}
 
 pub two_bytes_give : (x : ℕ) → x / 256 * 256 + x % 256 ≡ x

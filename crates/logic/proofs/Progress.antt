@@ -1,11 +1,7 @@
 -- How far a sentence file is read: the lines done, and the bytes that are left. Assumes nothing.
-use Rattle.std.proofs.Common.{◌≡◌, ℕ, ◌+◌, ◌<◌, ◌≤◌, false, eqb, List, [], ◌∷◌, ◌++◌, length, Ok, Err, Result, sym, refl, ap, ◌∙◌, arith}
-use Rattle.std.proofs.lemmas.List.{nil_from_length}
-use Rattle.std.proofs.lemmas.Bool.{eqb-false}
-use Rattle.fields.specs.Fields.{Leads, Read, field_of, in_turn, starts}
-use Rattle.fields.specs.declared.fault.FieldFault.{FieldFault}
+use Rattle.std.proofs.Common.{◌≡◌, ℕ, ◌<◌, ◌≤◌, List, [], ◌∷◌, ◌++◌, length, Ok, Err, Result, sym, refl, ap, ◌∙◌, arith}
+use Rattle.fields.specs.Fields.{Leads, Read, in_turn, starts}
 use Rattle.fields.specs.declared.fault.FileFault.{FileFault}
-use Rattle.fields.specs.declared.fault.FileFault.TheVariants.{Field}
 use Rattle.theory.specs.Sentences.{Line}
 use Rattle.logic.specs.File.{line_at, line_behind, line_field, line_of, lines_in, sentence_file}
 use Rattle.logic.specs.Format.{allowed_line, due_line}
@@ -17,7 +13,7 @@ sentence_is_lines [] h = absurd (omega arith)
 sentence_is_lines (_ ∷ _) h = refl
 
 pub lines_of_sentence : (bytes : List ℕ) (ls : List Line) → sentence_file bytes ≡ Ok ls → lines_in bytes ≡ Ok ls
-lines_of_sentence [] ls h = absurd (let z : ◌≡◌ {A = ℕ} 0 1 = cc in omega arith)
+lines_of_sentence [] ls h = absurd (cc)
 lines_of_sentence (_ ∷ _) ls h = h
 
 -- the lines done, and those in the rest of the bytes, are the file's
@@ -28,13 +24,6 @@ pub read_none : (bytes : List ℕ) → ReadTo bytes [] 0 bytes
 read_none bytes = record { turn = refl }
 
 module _ {bytes : List ℕ} {done : List Line} {place : ℕ} {rest : List ℕ} (read : ReadTo bytes done place rest) where
-  pub read_all : rest ≡ [] → lines_in bytes ≡ Ok done
-  read_all h = sym read.turn ∙ ap (λ bs. in_turn line_field done (starts 0 place bs)) h
-
-  -- a field that is not past the end, and has a flaw
-  pub read_flawed : (e : FieldFault) → 0 < length rest → field_of due_line allowed_line place rest ≡ Err e → lines_in bytes ≡ Err (Field e)
-  read_flawed e some h = sym read.turn ∙ turn_refused done place rest (Field e) some (rw h)
-
   module _ (i : ℕ) (same : length done ≡ i) (f : Read) (next : ℕ) (leads : Leads due_line allowed_line place rest f next) where
     at_field : line_at i (record { place = place; bytes = rest }) ≡ line_behind i place (line_of f.tag f.value)
     at_field = rw leads.read

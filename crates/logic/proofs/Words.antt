@@ -3,6 +3,8 @@ use Rattle.std.proofs.Common.{◌≡◌, ℕ, zero, suc, ◌+◌, ◌-◌, ◌*�
 use native.Mathlib.Nat.{div-eq_of_lt}
 use lib.Bits.{and_block, bit_and, bit_or, bit_xor, or_block, or_shifted_r, xor_block}
 use lib.Pow.{field, high, low, mod-mod-pow}
+use Rattle.std.specs.Int.{bit_at}
+use Rattle.std.proofs.lemmas.Nat.Bits.{bit_at-lt, same_from_bits_below}
 use Rattle.std.proofs.lemmas.Bool.{cases_eq}
 use Rattle.theory.specs.Sentences.{StateSet, nowhere}
 use Rattle.logic.specs.Words.{has, word}
@@ -97,3 +99,15 @@ or_bit n X h = rw (add-one, ← h) (ap (bit_or (word n X)) (sym (one-mul (2 ^ n)
 -- one more state, which the set has not
 pub word_suc : (n : ℕ) (X : StateSet) → false ≡ X n → word n X ≡ word (n + 1) X
 word_suc n X h = rw (add-one, ← h) (omega arith)
+
+bit_as_test : (b : ℕ) → b < 2 → cond (eqb b 1) 1 0 ≡ b
+bit_as_test zero h = refl
+bit_as_test (suc zero) h = refl
+bit_as_test (suc (suc b)) h = absurd (omega arith)
+
+-- the set that a word is has the word
+pub word_has : (n w : ℕ) → w < 2 ^ n → word n (has w) ≡ w
+word_has n w h =
+    let bit : (v s : ℕ) → cond (has v s) 1 0 ≡ bit_at v s = λ v s. bit_as_test (bit_at v s) (bit_at-lt v s) in
+    same_from_bits_below n (word n (has w)) w (word_below n (has w)) h
+    (λ s l. sym (bit (word n (has w)) s) ∙ ap (λ b. cond b 1 0) (has_word n (has w) s l) ∙ bit w s)

@@ -1,5 +1,6 @@
 -- What a sentence file says: the outcome of reading any bytes as one. Assumes nothing.
 use Rattle.std.specs.Prelude.{ℕ, ◌+◌, ◌*◌, cond, List, [], ◌∷◌, ◌++◌, length, Ok, Err, Result, ◌==◌, nat_lt, slice_index}
+use Rattle.fields.specs.Bytes.{numbers}
 use Rattle.fields.specs.Fields.{Start, field_of, in_turn, of_file, starts, then}
 use Rattle.fields.specs.declared.fault.FileFault.{FileFault}
 use Rattle.fields.specs.declared.fault.FileFault.TheVariants.{Field, Limit, Number}
@@ -7,12 +8,6 @@ use Rattle.fields.specs.declared.fault.Flaw.TheVariants.{Short}
 use Rattle.theory.specs.Sentences.{all_of, any_of, Line, not_of, step_to, fits_after}
 use Rattle.theory.specs.declared.Part.{Part}
 use Rattle.logic.specs.Format.{allowed_line, due_line}
-
--- numbers of two bytes each, the high byte first
-abbrev pub numbers : List ℕ → List ℕ
-numbers [] = []
-numbers (high ∷ []) = []
-numbers (high ∷ low ∷ bytes) = (high * 256 + low) ∷ numbers bytes
 
 -- parts as numbers of two bytes: one for the line, two for k and two for m
 abbrev pub parts_in : List ℕ → List Part

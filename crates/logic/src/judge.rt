@@ -8,6 +8,7 @@ ghost use Rattle.logic.specs.Writing.{fits_file, sentence_bytes};
 use crate::fault::{JudgeFault, Verdict};
 use crate::format::SentenceField;
 use crate::line::{LINES, Line};
+use crate::sets::Sets;
 use fields::fault::{FileFault, Flaw};
 use fields::file::Fields;
 use model::source::Source;
@@ -16,11 +17,11 @@ use model::source::Source;
 /// behind those of the lines stay. Refuses, in this order, a void source, a file with a fault, and fewer words than lines;
 /// a refusal changes no word.
 pub fn judge<S: Source>(source: &S, bytes: &[u8], words: &mut [u64]) -> Result<Verdict, JudgeFault>
-    ensures answer { result ≡ answered (S.Source.meaning source.now)
-        (judged (S.Source.meaning source.now) bytes.now (length words.old)) }
-    ensures after { words.new ≡ words_after (S.Source.meaning source.now)
-        (judged (S.Source.meaning source.now) bytes.now (length words.old)) words.old }
-    ensures sound { JudgedSoundly (S.Source.meaning source.now) bytes.now words.new result }
+    ensures answer { result ≡ answered (S.meaning source.now)
+        (judged (S.meaning source.now) bytes.now (length words.old)) }
+    ensures after { words.new ≡ words_after (S.meaning source.now)
+        (judged (S.meaning source.now) bytes.now (length words.old)) words.old }
+    ensures sound { JudgedSoundly (S.meaning source.now) bytes.now words.new result }
     ensures written { (ls : List SentenceLine) → well_formed ls ≡ true → fits_file ls ≡ true
         → bytes.now ≡ sentence_bytes ls → sentence_file bytes.now ≡ Ok ls }
 {
@@ -53,15 +54,15 @@ fn count_lines(bytes: &[u8]) -> Result<usize, FileFault>
 fn evaluate<S: Source>(source: &S, bytes: &[u8], words: &mut [u64]) -> Result<Verdict, FileFault>
     requires { (ls : List SentenceLine) × (lines_in bytes.now ≡ Ok ls) × (length ls ≤ length words.old) }
     ensures { (ls : List SentenceLine) → lines_in bytes.now ≡ Ok ls
-        → (result ≡ Ok (verdict (S.Source.meaning source.now) ls))
-        × (words.new ≡ words_after (S.Source.meaning source.now) (Ok ls) words.old) }
+        → (result ≡ Ok (verdict (S.meaning source.now) ls))
+        × (words.new ≡ words_after (S.meaning source.now) (Ok ls) words.old) }
 {
     let mut depths = [0; LINES];
     let mut last = Verdict { set: 0, depth: 0 };
     for (before, field) in Fields::of(SentenceField, bytes).enumerate() {
         let line = Line::read(&field?, before)?;
         last = Verdict {
-            set: line.set(source, &words[0..before]),
+            set: Sets::new(source, &words[0..before]).of_line(line),
             depth: line.depth(&depths[0..before]),
         };
         words[before] = last.set;

@@ -6,5 +6,6 @@ pub mod fault;
 pub mod format;
 pub mod judge;
 mod line;
+mod parts;
 mod sets;
 pub mod worked;

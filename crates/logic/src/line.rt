@@ -2,108 +2,55 @@
 ghost use Rattle.std.specs.Prelude.{◌≡◌, ◌+◌, ◌-◌, ◌*◌, ◌<◌, [], ◌∷◌, length, Ok, Err, MatchOption, MatchResult, slice_index_or};
 ghost use Rattle.model.specs.Lists.{all};
 ghost use Rattle.theory.specs.Sentences.{fits_after, one_of_first};
-ghost use Rattle.logic.specs.File.{line_behind, line_of, numbers, parts_of, step_line};
+ghost use Rattle.logic.specs.File.{line_behind, line_of, step_line};
 ghost use Rattle.logic.specs.Format.{kind_tag};
 ghost use Rattle.logic.specs.Lines.{meant, sound_part};
 
 use crate::format::LineKind;
+use crate::parts::Parts;
 use fields::fault::FileFault;
 use fields::field::Field;
+use fields::values::{Numbers, Packing, Values};
+use model::ACTIONS;
 use theory::Part;
 
 /// The most lines of a sentence file.
 pub(crate) const LINES: usize = 4095;
 
-/// The number of actions.
-const ACTIONS: u8 = 32;
-
 /// The largest m of a part.
 const WHOLE: u32 = 1_000_000_000;
 
-/// A line, the numbers that it names still in bytes: two for a line number, ten for a part.
+/// A line; the lines and the parts that it names are read off the bytes of its field.
 #[derive(Clone, Copy)]
 pub enum Line<'a> {
     Not(u16),
-    All(&'a [u8]),
-    Any(&'a [u8]),
-    Step(u8, &'a [u8]),
-}
-
-fn number(high: u8, low: u8) -> u16
-    ensures { result ≡ high * 256 + low }
-{
-    high as u16 * 256 + low as u16
-}
-
-/// The line number at the front of some bytes, and the bytes behind it.
-pub(crate) fn next_number(bytes: &[u8]) -> Option<(u16, &[u8])>
-    ensures { MatchOption result (numbers bytes.now ≡ [])
-        (λ n. (numbers bytes.now ≡ n.0 ∷ numbers n.1.now) × (length n.1.now < length bytes.now)) }
-{
-    match bytes {
-        [high, low, rest @ ..] => Some((number(*high, *low), rest)),
-        _ => None,
-    }
-}
-
-/// The part at the front of some bytes, and the bytes behind it.
-pub(crate) fn next_part(bytes: &[u8]) -> Option<(Part, &[u8])>
-    ensures { MatchOption result (parts_of bytes.now ≡ [])
-        (λ n. (parts_of bytes.now ≡ n.0 ∷ parts_of n.1.now) × (length n.1.now < length bytes.now)) }
-{
-    let (line, bytes) = next_number(bytes)?;
-    let (k_high, bytes) = next_number(bytes)?;
-    let (k_low, bytes) = next_number(bytes)?;
-    let (m_high, bytes) = next_number(bytes)?;
-    let (m_low, bytes) = next_number(bytes)?;
-    let part = Part {
-        line,
-        k: k_high as u32 * 65536 + k_low as u32,
-        m: m_high as u32 * 65536 + m_low as u32,
-    };
-    Some((part, bytes))
+    All(Values<'a, Numbers>),
+    Any(Values<'a, Numbers>),
+    Step(u8, Values<'a, Parts>),
 }
 
 /// What belongs to a line, among what belongs to the lines so far. (No line that is judged names one that is not there.)
 pub(crate) fn named<T: Copy>(values: &[T], line: u16, none: T) -> T
     ensures { result ≡ slice_index_or values.now (line - 1) none }
 {
-    let at = (line as usize).saturating_sub(1);
-    if at >= values.len() {
-        return none;
-    }
-    values[at]
+    values
+        .get((line as usize).saturating_sub(1))
+        .copied()
+        .unwrap_or(none)
 }
 
-/// Whether all numbers are those of earlier lines, of which there are `before`.
-fn names_earlier(bytes: &[u8], before: usize) -> bool
-    ensures { result ≡ all (one_of_first before) (numbers bytes.now) }
+/// Whether a line is one of the first `before`.
+fn is_earlier(line: u16, before: usize) -> bool
+    ensures { result ≡ one_of_first before line }
 {
-    let mut bytes = bytes;
-    while let Some((line, rest)) = next_number(bytes) {
-        if line == 0 || line as usize > before {
-            return false;
-        }
-        bytes = rest;
-    }
-    true
+    0 < line && line as usize <= before
 }
 
-/// Whether all parts have the number of an earlier line and a sound share.
-fn parts_sound(bytes: &[u8], before: usize) -> bool
-    ensures { result ≡ all (sound_part before) (parts_of bytes.now) }
+/// Whether a part names one of the first `before` lines, and its share is sound.
+fn is_sound(part: Part, before: usize) -> bool
+    ensures { result ≡ sound_part before part }
 {
-    let mut bytes = bytes;
-    while let Some((part, rest)) = next_part(bytes) {
-        if part.line == 0 || part.line as usize > before {
-            return false;
-        }
-        if part.m == 0 || part.m > WHOLE || part.k > part.m {
-            return false;
-        }
-        bytes = rest;
-    }
-    true
+    is_earlier(part.line, before) && 0 < part.m && part.m <= WHOLE && part.k <= part.m
 }
 
 impl<'a> Line<'a> {
@@ -129,12 +76,12 @@ impl<'a> Line<'a> {
         ensures { meant result ≡ line_of (kind_tag kind) value.now }
     {
         match kind {
-            LineKind::Not => match next_number(value) {
+            LineKind::Not => match Numbers::split(value) {
                 Some((line, _)) => Line::Not(line),
                 None => Line::Not(0),
             },
-            LineKind::All => Line::All(value),
-            LineKind::Any => Line::Any(value),
+            LineKind::All => Line::All(Values::of(value)),
+            LineKind::Any => Line::Any(Values::of(value)),
             LineKind::Step => Line::step_from(value),
         }
     }
@@ -144,8 +91,8 @@ impl<'a> Line<'a> {
         ensures { meant result ≡ step_line value.now }
     {
         match value {
-            [action, parts @ ..] => Line::Step(*action, parts),
-            [] => Line::Step(0, value),
+            [action, parts @ ..] => Line::Step(*action, Values::of(parts)),
+            [] => Line::Step(0, Values::of(value)),
         }
     }
 
@@ -154,10 +101,13 @@ impl<'a> Line<'a> {
         ensures { result ≡ fits_after before (meant self.entry) }
     {
         match self {
-            Line::Not(line) => 0 < line && line as usize <= before,
-            Line::All(bytes) => names_earlier(bytes, before),
-            Line::Any(bytes) => names_earlier(bytes, before),
-            Line::Step(action, parts) => action < ACTIONS && parts_sound(parts, before),
+            Line::Not(line) => is_earlier(line, before),
+            Line::All(mut lines) | Line::Any(mut lines) => {
+                lines.all(|line| is_earlier(line, before))
+            }
+            Line::Step(action, mut parts) => {
+                action < ACTIONS && parts.all(|part| is_sound(part, before))
+            }
         }
     }
 }

@@ -1,13 +1,15 @@
 // Where a line holds, as a word with bit s for state s, from the words of the lines before it.
-ghost use Rattle.std.specs.Prelude.{◌≡◌, ◌<◌, ◌≤◌, true, List, map};
-ghost use Rattle.model.specs.Lists.{all, any};
+ghost use Rattle.std.specs.Prelude.{◌≡◌, ◌<◌, ◌≤◌, ◌^◌, ◌&&◌, ◌==◌, ℕ, true, slice_index};
+ghost use Rattle.model.specs.Lists.{all};
 ghost use Rattle.model.specs.Model.{count, step_at};
-ghost use Rattle.theory.specs.Sentences.{StateSet, step_to, line_holds, part_holds, set_of, share};
-ghost use Rattle.logic.specs.File.{numbers, parts_of};
+ghost use Rattle.theory.specs.Sentences.{line_holds, part_holds, set_of, share, step_to};
+ghost use Rattle.logic.specs.File.{parts_of};
 ghost use Rattle.logic.specs.Lines.{meant};
-ghost use Rattle.logic.specs.Words.{has, word};
+ghost use Rattle.logic.specs.Words.{has, sets_in, word};
 
-use crate::line::{Line, named, next_number, next_part};
+use crate::line::{Line, named};
+use crate::parts::Parts;
+use fields::values::Values;
 use model::source::Source;
 use theory::Part;
 
@@ -31,113 +33,92 @@ fn everywhere(states: usize) -> u64
     }
 }
 
-/// Where all of the lines hold that are named.
-fn meet(names: &[u8], words: &[u64], states: usize) -> u64
-    requires { states ≤ 64 }
-    ensures { (sets : List StateSet) → words.now ≡ map (word states) sets
-        → result ≡ word states (λ s. all (λ i. set_of sets i s) (numbers names.now)) }
-{
-    let mut set = everywhere(states);
-    let mut names = names;
-    while let Some((line, rest)) = next_number(names) {
-        set &= named(words, line, 0);
-        names = rest;
-    }
-    set
+/// The sets of the lines so far, each a word, among the states of a source.
+#[derive(Drop)]
+pub(crate) struct Sets<'a, S: Source> {
+    source: &'a S,
+    words: &'a [u64],
+
+    ghost inside: { (i : ℕ) → slice_index words.now i < 2 ^ count (S.meaning source.now) },
 }
 
-/// Where any of the lines holds that are named.
-fn join(names: &[u8], words: &[u64], states: usize) -> u64
-    ensures { (sets : List StateSet) → words.now ≡ map (word states) sets
-        → result ≡ word states (λ s. any (λ i. set_of sets i s) (numbers names.now)) }
-{
-    let mut set = 0;
-    let mut names = names;
-    while let Some((line, rest)) = next_number(names) {
-        set |= named(words, line, 0);
-        names = rest;
-    }
-    set
-}
-
-/// How much of a step's weight goes to a set.
-fn share_of<S: Source>(source: &S, state: usize, step: usize, set: u64) -> u32
-    ensures { result ≡ share (has set) (step_at (S.Source.meaning source.now) state step) }
-{
-    let mut sum = 0;
-    for branch in 0..source.branches(state, step) {
-        if contains(set, source.target(state, step, branch)) {
-            sum += source.weight(state, step, branch);
-        }
-    }
-    sum
-}
-
-/// Whether at least k of m of a step's weight goes to the set of the part's line.
-fn part_holds<S: Source>(source: &S, state: usize, step: usize, part: Part, words: &[u64]) -> bool
-    ensures { (sets : List StateSet) → words.now ≡ map (word (count (S.Source.meaning source.now))) sets
-        → result ≡ part_holds sets (step_at (S.Source.meaning source.now) state step) part }
-{
-    let weight = share_of(source, state, step, named(words, part.line, 0));
-    let total = source.total(state, step);
-    weight as u64 * part.m as u64 >= part.k as u64 * total as u64
-}
-
-/// Whether every part holds of a step.
-fn parts_hold<S: Source>(source: &S, state: usize, step: usize, parts: &[u8], words: &[u64]) -> bool
-    ensures { (sets : List StateSet) → words.now ≡ map (word (count (S.Source.meaning source.now))) sets
-        → result ≡ all (part_holds sets (step_at (S.Source.meaning source.now) state step)) (parts_of parts.now) }
-{
-    let mut parts = parts;
-    while let Some((part, rest)) = next_part(parts) {
-        if !part_holds(source, state, step, part, words) {
-            return false;
-        }
-        parts = rest;
-    }
-    true
-}
-
-/// Whether a state has a step of the action of which every part holds.
-fn takes<S: Source>(source: &S, state: usize, action: u8, parts: &[u8], words: &[u64]) -> bool
-    ensures { (sets : List StateSet) → words.now ≡ map (word (count (S.Source.meaning source.now))) sets
-        → result ≡ line_holds (S.Source.meaning source.now) sets (step_to action (parts_of parts.now)) state }
-{
-    for step in 0..source.steps(state) {
-        if source.action(state, step) == action && parts_hold(source, state, step, parts, words) {
-            return true;
-        }
-    }
-    false
-}
-
-/// The states with such a step.
-fn takers<S: Source>(source: &S, action: u8, parts: &[u8], words: &[u64]) -> u64
-    ensures { (sets : List StateSet) → words.now ≡ map (word (count (S.Source.meaning source.now))) sets
-        → result ≡ word (count (S.Source.meaning source.now)) (line_holds (S.Source.meaning source.now) sets
-        (step_to action (parts_of parts.now))) }
-{
-    let mut set = 0;
-    for state in 0..source.states() {
-        if takes(source, state, action, parts, words) {
-            set |= 1 << state;
-        }
-    }
-    set
-}
-
-impl Line<'_> {
-    /// Where the line holds.
-    pub(crate) fn set<S: Source>(self, source: &S, words: &[u64]) -> u64
-        ensures { (sets : List StateSet) → words.now ≡ map (word (count (S.Source.meaning source.now))) sets
-            → result ≡ word (count (S.Source.meaning source.now)) (line_holds (S.Source.meaning source.now) sets (meant self.entry)) }
+impl<'a, S: Source> Sets<'a, S> {
+    pub(crate) fn new(source: &'a S, words: &'a [u64]) -> Self
+        requires { (i : ℕ) → slice_index words.now i < 2 ^ count (S.meaning source.now) }
+        ensures { (result.source.now ≡ source.now) × (result.words.now ≡ words.now) }
     {
-        let states = source.states();
-        match self {
-            Line::Not(line) => everywhere(states) ^ named(words, line, 0),
-            Line::All(names) => meet(names, words, states),
-            Line::Any(names) => join(names, words, states),
-            Line::Step(action, parts) => takers(source, action, parts, words),
+        Sets { source, words }
+    }
+
+    /// The set of a line that is named.
+    fn named(&self, line: u16) -> u64
+        ensures { let m = S.meaning self.now.source.now in
+            result ≡ word (count m) (set_of (sets_in self.now.words.now) line) }
+    {
+        named(self.words, line, 0)
+    }
+
+    /// How much of a step's weight goes to a set.
+    fn share(&self, state: usize, step: usize, set: u64) -> u32
+        ensures { result ≡ share (has set) (step_at (S.meaning self.now.source.now) state step) }
+    {
+        (0..self.source.branches(state, step))
+            .filter(|branch| contains(set, self.source.target(state, step, *branch)))
+            .map(|branch| self.source.weight(state, step, branch))
+            .sum()
+    }
+
+    /// Whether at least k of m of a step's weight goes to the set of the part's line.
+    fn part_holds(&self, state: usize, step: usize, part: Part) -> bool
+        ensures { let a = step_at (S.meaning self.now.source.now) state step in
+            result ≡ part_holds (sets_in self.now.words.now) a part }
+    {
+        let share = self.share(state, step, self.named(part.line));
+        let total = self.source.total(state, step);
+        share as u64 * part.m as u64 >= part.k as u64 * total as u64
+    }
+
+    /// Whether a step is one of the action, and every part holds of it.
+    fn passes(&self, state: usize, step: usize, action: u8, mut parts: Values<Parts>) -> bool
+        ensures { let a = step_at (S.meaning self.now.source.now) state step in
+            result ≡ ((a.action == action)
+            && all (part_holds (sets_in self.now.words.now) a) (parts_of parts.entry.bytes.now)) }
+    {
+        self.source.action(state, step) == action
+            && parts.all(|part| self.part_holds(state, step, part))
+    }
+
+    /// Whether a state has a step of the action of which every part holds.
+    fn takes(&self, state: usize, action: u8, parts: Values<Parts>) -> bool
+        ensures { let m = S.meaning self.now.source.now in
+            let line = step_to action (parts_of parts.entry.bytes.now) in
+            result ≡ line_holds m (sets_in self.now.words.now) line state }
+    {
+        (0..self.source.steps(state)).any(|step| self.passes(state, step, action, parts))
+    }
+
+    /// The states with such a step.
+    fn takers(&self, action: u8, parts: Values<Parts>) -> u64
+        ensures { let m = S.meaning self.now.source.now in
+            let line = step_to action (parts_of parts.entry.bytes.now) in
+            result ≡ word (count m) (line_holds m (sets_in self.now.words.now) line) }
+    {
+        (0..self.source.states())
+            .filter(|state| self.takes(*state, action, parts))
+            .fold(0, |set, state| set | 1 << state)
+    }
+
+    /// Where a line holds.
+    pub(crate) fn of_line(&self, line: Line) -> u64
+        ensures { let m = S.meaning self.now.source.now in
+            result ≡ word (count m) (line_holds m (sets_in self.now.words.now) (meant line.entry)) }
+    {
+        let all = everywhere(self.source.states());
+        match line {
+            Line::Not(line) => all ^ self.named(line),
+            Line::All(lines) => lines.fold(all, |set, line| set & self.named(line)),
+            Line::Any(lines) => lines.fold(0, |set, line| set | self.named(line)),
+            Line::Step(action, parts) => self.takers(action, parts),
         }
     }
 }

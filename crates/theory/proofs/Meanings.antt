@@ -4,32 +4,45 @@ use Rattle.std.specs.List.{AllByRecursion as All}
 use Rattle.std.proofs.ByRecursion.{All-weaker}
 use Rattle.std.proofs.lemmas.List.{get_or_push, length_push}
 use Rattle.std.proofs.lemmas.Bool.{and_parts}
-use Rattle.model.specs.Lists.{all, greatest}
+use Rattle.model.specs.Lists.{greatest}
 use Rattle.model.specs.Model.{Model, Step, steps_of, total}
 use Rattle.theory.specs.Laws.{LinesMean}
 use Rattle.theory.specs.Sentences.{all_of, any_of, Line, not_of, StateSet, step_to, depth_at, depths_from, depths_of, fits_after, line_depth}
-use Rattle.theory.specs.Sentences.{line_holds, names, nowhere, own_depth, part_holds, set_of, sets_from, sets_of, share, well_formed_from}
+use Rattle.theory.specs.Sentences.{line_holds, names, nowhere, own_depth, part_holds, set_of, sets_from, sets_of, well_formed_from}
 use Rattle.theory.specs.declared.Part.{Part}
-use Rattle.theory.proofs.Tests.{all_always, all_same, all_unmap, any_same, map_same}
+use Rattle.theory.proofs.Tests.{all_always, all_same, all_unmap, any_same, map_same, share_same}
 use Rattle.theory.proofs.Texts.{names_between, run_keeps}
 
--- where a line holds depends on the sets of the lines that it names only
-module _ (m : Model) (xs ys : List StateSet) where
+-- Where a line holds depends on the sets of the lines that it names only, and at a state of some that steps do not leave
+-- it depends on those states only.
+module _ (m : Model) (P : ℕ → Type 0) (xs ys : List StateSet) where
   abbrev Same : ℕ → Type 0
-  Same i = set_of xs i ≡ set_of ys i
+  Same i = (s : ℕ) → P s → set_of xs i s ≡ set_of ys i s
 
-  part_holds_same : (a : Step) (q : Part) → Same q.line → part_holds xs a q ≡ part_holds ys a q
-  part_holds_same a q e = ap (λ X. leb (q.k * total a) (share X a * q.m)) e
+  abbrev Stays : Step → Type 0
+  Stays a = All (λ b. P b.target) a.branches
 
-  pub line_holds_same : (l : Line) → All Same (names l) → (s : ℕ) → line_holds m xs l s ≡ line_holds m ys l s
-  line_holds_same (not_of i) h s = ap (λ X. not (X s)) h.0
-  line_holds_same (all_of is) h s = all_same _ _ is (All-weaker _ _ (λ i e. ap (λ X. X s) e) is h)
-  line_holds_same (any_of is) h s = any_same _ _ is (All-weaker _ _ (λ i e. ap (λ X. X s) e) is h)
-  line_holds_same (step_to act qs) h s =
+  part_holds_same : (a : Step) → Stays a → (q : Part) → Same q.line → part_holds xs a q ≡ part_holds ys a q
+  part_holds_same a stays q e =
+      ap (λ w. leb (q.k * total a) (w * q.m))
+      (share_same (set_of xs q.line) (set_of ys q.line) a (All-weaker _ _ (λ b h. e b.target h) a.branches stays))
+
+  pub line_holds_same : (l : Line) → All Same (names l) → (s : ℕ) → P s → All Stays (steps_of m s) → line_holds m xs l s ≡ line_holds m ys l s
+  line_holds_same (not_of i) h s here stay = ap not (h.0 s here)
+  line_holds_same (all_of is) h s here stay = all_same _ _ is (All-weaker _ _ (λ i e. e s here) is h)
+  line_holds_same (any_of is) h s here stay = any_same _ _ is (All-weaker _ _ (λ i e. e s here) is h)
+  line_holds_same (step_to act qs) h s here stay =
       let parts = all_unmap Same (λ q. q.line) qs h in
-      let same : (a : Step) → (eqb a.action act && all (part_holds xs a) qs) ≡ (eqb a.action act && all (part_holds ys a) qs) =
-      λ a. ap (λ b. eqb a.action act && b) (all_same _ _ qs (All-weaker _ _ (part_holds_same a) qs parts)) in
-      any_same _ _ (steps_of m s) (all_always _ same (steps_of m s))
+      any_same _ _ (steps_of m s)
+      (All-weaker _ _ (λ a stays. ap (λ b. eqb a.action act && b) (all_same _ _ qs (All-weaker _ _ (part_holds_same a stays) qs parts)))
+      (steps_of m s) stay)
+
+-- at any states
+sets_same : (m : Model) (xs ys : List StateSet) (l : Line) → All (λ i. set_of xs i ≡ set_of ys i) (names l)
+    → (s : ℕ) → line_holds m xs l s ≡ line_holds m ys l s
+sets_same m xs ys l h s =
+    line_holds_same m (λ _. Unit {0}) xs ys l (All-weaker _ _ (λ i e t _. ap (λ X. X t) e) (names l) h) s tt
+    (all_always _ (λ a. all_always _ (λ b. tt) a.branches) (steps_of m s))
 
 -- and so does its depth on their depths
 pub line_depth_same : (xs ys : List ℕ) (l : Line) → All (λ i. depth_at xs i ≡ depth_at ys i) (names l) → line_depth xs l ≡ line_depth ys l
@@ -66,7 +79,7 @@ lines_mean m ls h i l =
     let e : i + 1 - 1 ≡ 0 + i = omega arith in
     let sets : get_or (sets_of m ls) (i + 1 - 1) nowhere ≡ line_holds m (sets_of m ls) (get_or ls i (all_of [])) =
     rw e (value_means nowhere (line_holds m) (sets_from m) (λ _. refl) (λ _ _ _. refl)
-    (λ xs ys x r k s. line_holds_same m xs ys x r s k) [] ls formed i l) in
+    (λ xs ys x r k s. sets_same m xs ys x r s k) [] ls formed i l) in
     let depths : get_or (depths_of ls) (i + 1 - 1) 0 ≡ line_depth (depths_of ls) (get_or ls i (all_of [])) =
     rw e (value_means 0 line_depth depths_from (λ _. refl) (λ _ _ _. refl) line_depth_same [] ls formed i l) in
     (λ s. ap (λ X. X s) sets, depths)

@@ -1,17 +1,16 @@
 -- Assumes nothing.
-use Rattle.std.proofs.Common.{◌≡◌, ◌<◌, [], ◌∷◌, ◌++◌, length, Ok, sym, refl, ap, ◌∙◌, arith}
+use Rattle.std.proofs.Common.{◌≡◌, ◌<◌, [], ◌∷◌, ◌++◌, length, sym, ap, ◌∙◌, ap₂, arith}
 use native.Mathlib.Nat.{sub-zero}
 use Rattle.std.proofs.lemmas.List.{length_push}
 use Rattle.model.specs.Model.{Model, count}
 use Rattle.theory.specs.Sentences.{depths_of, line_depth, line_holds, sets_of}
 use Rattle.logic.specs.File.{line_of}
 use Rattle.logic.specs.Format.{kind_tag}
-use Rattle.logic.specs.Judging.{verdict, words_after}
 use Rattle.logic.specs.Lines.{meant}
-use Rattle.logic.specs.Words.{word}
+use Rattle.logic.specs.Words.{sets_in, word}
 use Rattle.logic.proofs.Files.{line_behind_few}
-use Rattle.logic.proofs.Judging.{depths_done, depths_low, judged_more, judged_none, words_done}
-use Rattle.logic.proofs.Progress.{read_all, read_flawed, read_more, read_none, read_refused, read_room, same_ok}
+use Rattle.logic.proofs.Judging.{depths_done, depths_low, judged_more, judged_none, line_told, words_low}
+use Rattle.logic.proofs.Progress.{read_more, read_none, read_room}
 use Rattle.logic.proofs.judge.evaluate.Goals as goal
 use Rattle.logic.proofs.judge.evaluate.Goals.{In_ok-line}
 
@@ -38,11 +37,16 @@ few g c =
     let field = c.in_ok-field.field-0 in
     line_behind_few c.in-Some.before field.place (line_of (kind_tag field.kind) field.value.now) (meant c.in_ok-line.line) c.in_ok-line.ensures
 
-pub slice_bounds-set-end : goal.slice_bounds-set-end
-slice_bounds-set-end g c = omega (arith, room g c, c.loop-before.invariant.3.size)
+pub slice_bounds-new-end : goal.slice_bounds-new-end
+slice_bounds-new-end g c = omega (arith, room g c, c.loop-before.invariant.3.size)
 
 pub slice_bounds-depth-end : goal.slice_bounds-depth-end
 slice_bounds-depth-end g c = let l = few g (goal.at.slice_bounds-depth-end g c).In_ok-line in omega (arith, l)
+
+pub new-requires : goal.new-requires
+new-requires g c =
+    let here = c.loop-before.invariant.1 ∙ sym c.in-Some.ensures.steps.1 in
+    rw sub-zero (words_low c.loop-before.invariant.3 c.in-Some.before here)
 
 pub depth-requires : goal.depth-requires
 depth-requires g c =
@@ -65,23 +69,13 @@ loop-before-preserved g c =
     let judged = c.loop-before.invariant.3 in
     let here : length done ≡ c.in-Some.before = c.loop-before.invariant.1 ∙ sym steps.1 in
     let at = (goal.at.loop-before-preserved g c).In_ok-line in
-    let w_is : c.set.result ≡ word (count m) (line_holds m (sets_of m done) line) =
-    c.set.ensures (sets_of m done) (rw sub-zero (words_done judged c.in-Some.before here)) in
+    let w_is : c.of_line.result ≡ word (count m) (line_holds m (sets_of m done) line) =
+    c.of_line.ensures ∙ ap₂ (λ source ws. word (count (g.S.Source.meaning source)) (line_holds (g.S.Source.meaning source) (sets_in ws) line))
+    c.new.ensures.0 c.new.ensures.1 ∙ rw sub-zero (line_told judged c.in-Some.before here (g.met.S.Source.obeys c.args.source.now) line) in
     let d_is : c.depth.result ≡ line_depth (depths_of done) line =
     c.depth.ensures ∙ ap (λ ds. line_depth ds line) (rw sub-zero (depths_done judged c.in-Some.before here)) in (
       done ++ line ∷ [],
       omega (arith, length_push done line, here, steps.1, steps.2),
       rw taken.1 (read_more c.loop-before.invariant.2 c.in-Some.before here _ _ taken.2 line (rw taken.0 at c.in_ok-line.ensures)),
-      judged_more judged c.in-Some.before here line c.set.result c.depth.result w_is d_is (room g at) (few g at),
-    )
-
-pub shape_of-words : goal.shape_of-words
-shape_of-words g c = c.loop-before.invariant.3.size
-
-pub returns : goal.returns
-returns g c ls h =
-    let m : Model = g.S.Source.meaning c.args.source.now in
-    let same : c.loop-before.invariant.0 ≡ ls = same_ok (sym (read_all c.loop-before.invariant.2 c.in-None.ensures.steps.0) ∙ h) in (
-      ap Ok (c.loop-before.invariant.3.told ∙ ap (verdict m) same),
-      c.loop-before.invariant.3.in_front ∙ ap (λ done. words_after m (Ok done) c.args.words.now) same,
+      judged_more judged c.in-Some.before here line c.of_line.result c.depth.result w_is d_is (room g at) (few g at),
     )

@@ -1,0 +1,65 @@
+-- A chain's result in std's words on lists, and the same in ours; lists that are gone through by place. Assumes nothing.
+use Rattle.std.proofs.Common.{◌≡◌, ℕ, max, Bool, true, false, cond, ◌&&◌, ◌||◌, List, [], ◌∷◌, map, length, get_or, filter, None, Some, Option, refl, ap, ◌∙◌, arith}
+use Rattle.std.specs.List.{fold, list_all, list_any, range_with_len, reduce, sum_by}
+use Rattle.std.specs.Iterator.{YieldsFirst}
+use Rattle.std.specs.Option.{option_map, unwrap_or}
+use Rattle.std.proofs.lemmas.Iterator.{YieldsList}
+use Rattle.std.proofs.lemmas.Iterator.Consumers.{YieldsList-from_first}
+use Rattle.std.proofs.lemmas.List.{get_or_default, same_lists}
+use Rattle.std.proofs.lemmas.List.FromFn.{get_or-map-range_with_len, length-map-range_with_len}
+use Rattle.std.proofs.lemmas.List.Sums.{sum_by-cons}
+use Rattle.fields.specs.declared.values.Values.{Values}
+use Rattle.model.specs.Lists.{all, any, greatest}
+
+-- the values that some bytes hold come in turn
+pub held_in_turn : {A P : Type 0} (held : List ℕ → List A) (values : Values P)
+    → YieldsList (YieldsFirst (λ s. held s.bytes.now)) (λ x. x) values (held values.bytes.now)
+held_in_turn held values = YieldsList-from_first (λ x. x) (λ s. held s.bytes.now) (held values.bytes.now) refl
+
+pub all_is : {X : Type 0} (p : X → Bool) (xs : List X) → list_all p xs ≡ all p xs
+all_is p [] = refl
+all_is p (x ∷ xs) = ap (λ b. p x && b) (all_is p xs)
+
+greatest_from : (n : ℕ) (xs : List ℕ) → fold max n xs ≡ max n (greatest xs)
+greatest_from n [] = omega arith
+greatest_from n (x ∷ xs) = omega (arith, greatest_from (max n x) xs)
+
+pub greatest_is : (r : Option ℕ) (xs : List ℕ) → option_map (λ x. x) r ≡ reduce max xs → unwrap_or r 0 ≡ greatest xs
+greatest_is None [] h = refl
+greatest_is None (x ∷ xs) h = cc
+greatest_is (Some y) [] h = cc
+greatest_is (Some y) (x ∷ xs) h = let e : y ≡ fold max x xs = cc in e ∙ greatest_from x xs
+
+module _ {X : Type 0} (xs : List X) (d : X) where
+  -- the elements at all places
+  elements : map (λ i. get_or xs i d) (range_with_len 0 (length xs)) ≡ xs
+  elements =
+      let at : ℕ → X = λ i. get_or xs i d in
+      let long : length (map at (range_with_len 0 (length xs))) ≡ length xs = length-map-range_with_len at 0 (length xs) in
+      same_lists _ xs long
+      (λ k e h. get_or-map-range_with_len at 0 (length xs) k k e (omega arith) (omega arith) ∙ get_or_default xs k d e (omega arith))
+
+  any-map : {Y : Type 0} (p : X → Bool) (f : Y → X) (ys : List Y) → list_any (λ y. p (f y)) ys ≡ any p (map f ys)
+  any-map p f [] = refl
+  any-map p f (y ∷ ys) = ap (λ b. p (f y) || b) (any-map p f ys)
+
+  pub any_place : (p : X → Bool) → list_any (λ i. p (get_or xs i d)) (range_with_len 0 (length xs)) ≡ any p xs
+  any_place p = any-map p (λ i. get_or xs i d) (range_with_len 0 (length xs)) ∙ ap (any p) elements
+
+  module _ (w : X → ℕ) (p : X → Bool) where
+    sum-map-filter : {Y : Type 0} (f : Y → X) (ys : List Y)
+        → sum_by (λ y. w (f y)) (filter (λ y. p (f y)) ys) ≡ sum_by w (filter p (map f ys))
+    sum-map-filter f [] = refl
+    sum-map-filter {Y} f (y ∷ ys) =
+        let more = sum-map-filter f ys in
+        let front : List Y = filter (λ z. p (f z)) ys in
+        let behind : List X = filter p (map f ys) in
+        let one = sum_by-cons (λ z. w (f z)) y front in
+        let other = sum_by-cons w (f y) behind in
+        elim (p (f y)) as (λ b. sum_by (λ z. w (f z)) (cond b (y ∷ front) front) ≡ sum_by w (cond b (f y ∷ behind) behind)) [
+          | true ↦ omega arith
+          | false ↦ more
+        ]
+
+    pub sum_places : sum_by (λ i. w (get_or xs i d)) (filter (λ i. p (get_or xs i d)) (range_with_len 0 (length xs))) ≡ sum_by w (filter p xs)
+    sum_places = sum-map-filter (λ i. get_or xs i d) (range_with_len 0 (length xs)) ∙ ap (λ ys. sum_by w (filter p ys)) elements
