@@ -13,7 +13,6 @@ use Rattle.model.proofs.Greatest.{greatest_bounds}
 use Rattle.model.proofs.Laws.{LawfulStep}
 use Rattle.model.proofs.Tests.{all_at}
 use Rattle.table.specs.Arrays.{Row, branches_in, measured, row_in, states_in, step_in, steps_in, with_step}
-use Rattle.table.specs.Few.{items_of}
 use Rattle.table.specs.declared.row.Entry.{Entry}
 use Rattle.table.proofs.Arrays.{Inside, Placed, no_row}
 use Rattle.table.proofs.Measures.{SoundRow, lawful_from_sound, row_total, sound_from_lawful}
@@ -30,8 +29,8 @@ module _ (rows : List Row) (bs new : List Branch) (placed : Placed (length bs) r
       let t = take-append-le e.count (drop e.first bs) new (omega (arith, length-drop e.first bs)) in
       ap (λ ys. record { action = e.action; branches = ys }) (ap (take e.count) d ∙ t)
 
-  row_kept : (r : Row) → All (Inside (length bs)) (items_of r) → row_in (bs ++ new) r ≡ row_in bs r
-  row_kept r h = map_same (step_in (bs ++ new)) (step_in bs) (items_of r) (All-weaker _ _ step_kept (items_of r) h)
+  row_kept : (r : Row) → All (Inside (length bs)) r.items → row_in (bs ++ new) r ≡ row_in bs r
+  row_kept r h = map_same (step_in (bs ++ new)) (step_in bs) r.items (All-weaker _ _ step_kept r.items h)
 
   module _ (s action : ℕ) (r : Row) where
     abbrev pub entry : Entry
@@ -40,7 +39,7 @@ module _ (rows : List Row) (bs new : List Branch) (placed : Placed (length bs) r
     abbrev pub step : Step
     step = record { action = action; branches = new }
 
-    module _ (more : items_of r ≡ items_of (get_or rows s no_row) ++ entry ∷ []) where
+    module _ (more : r.items ≡ (get_or rows s no_row).items ++ entry ∷ []) where
       row_pushed : row_in (bs ++ new) r ≡ get_or (states_in rows bs) s [] ++ step ∷ []
       row_pushed =
           let old : Row = get_or rows s no_row in
@@ -48,7 +47,7 @@ module _ (rows : List Row) (bs new : List Branch) (placed : Placed (length bs) r
           (ap (take (length new)) (drop-append_seam bs new) ∙ take_all (length new) new (omega arith)) in
           let kept = row_kept old (all_at _ rows s no_row placed tt) in
           let place = get_or_map_default (row_in bs) rows s no_row in
-          ap (map (step_in (bs ++ new))) more ∙ (map_push (step_in (bs ++ new)) (items_of old) entry ∙ cc (part, kept, place))
+          ap (map (step_in (bs ++ new))) more ∙ (map_push (step_in (bs ++ new)) old.items entry ∙ cc (part, kept, place))
 
       pub states_in_pushed : states_in (set rows s r) (bs ++ new) ≡ with_step (states_in rows bs) s step
       states_in_pushed =
@@ -60,9 +59,9 @@ module _ (rows : List Row) (bs new : List Branch) (placed : Placed (length bs) r
           let n : ℕ = length (bs ++ new) in
           let wider : (es : List Entry) → All (Inside (length bs)) es → All (Inside n) es =
           λ es h. All-weaker _ _ (λ x k. omega (arith, k, length-append bs new)) es h in
-          let grown = All-push (Inside n) (items_of (get_or rows s no_row)) entry (wider _ (all_at _ rows s no_row placed tt))
+          let grown = All-push (Inside n) (get_or rows s no_row).items entry (wider _ (all_at _ rows s no_row placed tt))
           (omega (arith, length-append bs new)) in
-          All-set _ rows s r (rw more grown) (All-weaker _ _ (λ x h. wider (items_of x) h) rows placed)
+          All-set _ rows s r (rw more grown) (All-weaker _ _ (λ x h. wider x.items h) rows placed)
 
 greatest_set : {X : Type 0} (f : X → ℕ) (xs : List X) (i : ℕ) (y d : X) → i < length xs → f (get_or xs i d) ≤ f y
     → greatest (map f (set xs i y)) ≡ max (greatest (map f xs)) (f y)

@@ -1,22 +1,21 @@
 -- What a table's arrays stand for. Assumes nothing.
 use Rattle.std.specs.Prelude.{ℕ, ◌+◌, ◌^◌, Bool, cond, List, [], ◌∷◌, ◌++◌, map, length, take, drop, Some, None, sum_by, Option, nat_le, nat_lt, slice_index_or, slice_set}
+use Rattle.arrayvec.specs.ArrayVec.{ArrayVec}
 use Rattle.model.specs.Lists.{all, greatest}
 use Rattle.model.specs.Model.{Model, Step, total}
 use Rattle.model.specs.declared.Branch.{Branch}
-use Rattle.table.specs.Few.{items_of}
-use Rattle.table.specs.declared.few.Few.{Few}
 use Rattle.table.specs.declared.row.Entry.{Entry}
 
 -- a state's steps, of which there are at most 16
 abbrev pub Row : Type 0
-Row = Few Entry 16
+Row = ArrayVec Entry
 
 -- the step of an entry, over the table's branches
 abbrev pub step_in : List Branch → Entry → Step
 step_in bs e = record { action = e.action; branches = take e.count (drop e.first bs) }
 
 abbrev pub row_in : List Branch → Row → List Step
-row_in bs r = map (step_in bs) (items_of r)
+row_in bs r = map (step_in bs) r.items
 
 -- the steps of each state
 abbrev pub states_in : List Row → List Branch → List (List Step)
@@ -44,4 +43,4 @@ branches_in ss = sum_by (λ row. sum_by (λ a. length a.branches) row) ss
 
 -- each step keeps to the branches
 abbrev pub placed : List Row → List Branch → Bool
-placed rows bs = all (λ r. all (λ e. nat_le (e.first + e.count) (length bs)) (items_of r)) rows
+placed rows bs = all (λ r. all (λ e. nat_le (e.first + e.count) (length bs)) r.items) rows

@@ -1,5 +1,4 @@
 -- What a table's arrays stand for, and what a model file says. Assumes nothing.
-pub mod Few
 pub mod Arrays
 pub mod Format
 pub mod File

@@ -2,11 +2,10 @@
 use Rattle.std.specs.Prelude.{List, [], ◌∷◌}
 use Rattle.model.specs.Model.{Model, Step}
 use Rattle.table.specs.Arrays.{measured, states_in}
-use Rattle.table.specs.Few.{items_of}
 use Rattle.table.specs.declared.table.Table.{Table}
 
 abbrev pub states_of : Table → List (List Step)
-states_of t = states_in (items_of t.rows) (items_of t.branches)
+states_of t = states_in t.rows.items t.branches.items
 
 abbrev pub table_of : Table → Model
 table_of t = measured (states_of t)

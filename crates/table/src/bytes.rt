@@ -1,10 +1,9 @@
 // The branches of a step, as a field holds them: the target in one byte, the weight in two.
 ghost use Rattle.std.specs.Prelude.{◌≡◌, ◌+◌, ◌^◌, ◌<◌, ◌≤◌, ◌++◌, length};
 ghost use Rattle.model.specs.Model.{mass};
-ghost use Rattle.table.specs.Few.{items_of};
 ghost use Rattle.table.specs.File.{read_branches, sound_branches};
 
-use crate::few::Few;
+use arrayvec::ArrayVec;
 use fields::values::{Packing, Values};
 use model::Branch;
 
@@ -63,9 +62,9 @@ pub(crate) fn total_of(bytes: &[u8]) -> u32
 }
 
 /// Adds the branches behind those that are there.
-pub(crate) fn append<const N: usize>(branches: &mut Few<Branch, N>, bytes: &[u8])
-    requires { length (items_of branches.old) + length (read_branches bytes.now) ≤ N }
-    ensures { items_of branches.new ≡ items_of branches.old ++ read_branches bytes.now }
+pub(crate) fn append<const N: usize>(branches: &mut ArrayVec<Branch, N>, bytes: &[u8])
+    requires { length branches.old.items + length (read_branches bytes.now) ≤ N }
+    ensures { branches.new.items ≡ branches.old.items ++ read_branches bytes.now }
 {
     for branch in Values::<Branches>::of(bytes) {
         branches.push(branch);

@@ -2,7 +2,6 @@
 #![tactic(auto)]
 
 mod bytes;
-mod few;
 pub mod format;
 mod row;
 pub mod table;

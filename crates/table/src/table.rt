@@ -2,10 +2,9 @@
 ghost use Rattle.std.specs.Prelude.{◌≡◌, true, length};
 ghost use Rattle.model.specs.Model.{lawful};
 ghost use Rattle.table.specs.Arrays.{branches_in, measured, placed, states_in, steps_in};
-ghost use Rattle.table.specs.Few.{items_of};
 
-use crate::few::Few;
 use crate::row::Row;
+use arrayvec::ArrayVec;
 use model::{Branch, STATES};
 
 mod answers;
@@ -19,18 +18,18 @@ const BRANCHES: usize = 1024;
 #[derive(Drop)]
 pub struct Table {
     /// The steps of each state.
-    rows: Few<Row, STATES>,
+    rows: ArrayVec<Row, STATES>,
     /// The branches of all steps.
-    branches: Few<Branch, BRANCHES>,
+    branches: ArrayVec<Branch, BRANCHES>,
     /// The number of steps.
     steps: usize,
     /// The largest number of steps of a state, and the largest total.
     most_steps: usize,
     most_total: u32,
-    ghost placed: { placed (items_of rows) (items_of branches) ≡ true },
-    ghost laws: { lawful (measured (states_in (items_of rows) (items_of branches))) ≡ true },
-    ghost steps_counted: { steps ≡ steps_in (states_in (items_of rows) (items_of branches)) },
-    ghost branches_counted: { length (items_of branches) ≡ branches_in (states_in (items_of rows) (items_of branches)) },
-    ghost steps_measured: { most_steps ≡ (measured (states_in (items_of rows) (items_of branches))).p },
-    ghost total_measured: { most_total ≡ (measured (states_in (items_of rows) (items_of branches))).z },
+    ghost placed: { placed rows.items branches.items ≡ true },
+    ghost laws: { lawful (measured (states_in rows.items branches.items)) ≡ true },
+    ghost steps_counted: { steps ≡ steps_in (states_in rows.items branches.items) },
+    ghost branches_counted: { length branches.items ≡ branches_in (states_in rows.items branches.items) },
+    ghost steps_measured: { most_steps ≡ (measured (states_in rows.items branches.items)).p },
+    ghost total_measured: { most_total ≡ (measured (states_in rows.items branches.items)).z },
 }

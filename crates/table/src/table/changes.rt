@@ -2,15 +2,13 @@
 ghost use Rattle.std.specs.Prelude.{◌≡◌, ◌+◌, ◌<◌, ◌≤◌, true, [], length, replicate, slice_index_or};
 ghost use Rattle.model.specs.Model.{lawful_step, total as total_of};
 ghost use Rattle.table.specs.Arrays.{with_step};
-ghost use Rattle.table.specs.Few.{items_of};
 ghost use Rattle.table.specs.File.{has_room, read_branches};
 ghost use Rattle.table.specs.Meaning.{starting, states_of, table_of};
 
 use crate::bytes::append;
-use crate::few::Few;
 use crate::row::{Entry, Row};
 use crate::table::Table;
-use model::Branch;
+use arrayvec::ArrayVec;
 
 impl Default for Table {
     ghost is_default = { λ t. table_of t ≡ starting };
@@ -33,13 +31,13 @@ impl Table {
         requires { states ≤ 64 }
         ensures { states_of result ≡ replicate states [] }
     {
-        let row = Row::new(Entry::default());
+        let mut rows = ArrayVec::new();
+        for _ in 0..states {
+            rows.push(Row::new());
+        }
         Table {
-            rows: Few::repeated(row, states),
-            branches: Few::new(Branch {
-                target: 0,
-                weight: 0,
-            }),
+            rows,
+            branches: ArrayVec::new(),
             steps: 0,
             most_steps: 0,
             most_total: 0,
@@ -48,9 +46,9 @@ impl Table {
 
     /// Adds a step as the last one of its state.
     pub(super) fn push(&mut self, state: usize, action: u8, branches: &[u8], total: u32)
-        requires state { state < length (items_of self.old.rows) }
+        requires state { state < length self.old.rows.items }
         requires room { has_room (states_of self.old) state (length (read_branches branches.now)) ≡ true }
-        requires lawful { lawful_step (length (items_of self.old.rows)) 1000000000
+        requires lawful { lawful_step (length self.old.rows.items) 1000000000
             (record { action = action; branches = read_branches branches.now }) ≡ true }
         requires total { total ≡ total_of (record { action = action; branches = read_branches branches.now }) }
         ensures { states_of self.new
@@ -63,10 +61,10 @@ impl Table {
             first: first as u16,
             count: (self.branches.len() - first) as u16,
         };
-        let mut row = self.rows[state];
+        let row = &mut self.rows[state];
         row.push(entry);
-        self.rows.set(state, row);
-        self.most_steps = self.most_steps.max(row.len());
+        let steps = row.len();
+        self.most_steps = self.most_steps.max(steps);
         self.most_total = self.most_total.max(total);
         self.steps += 1;
     }

@@ -1,7 +1,6 @@
 // Reading a model file into a table.
 ghost use Rattle.std.specs.Prelude.{◌≡◌, ◌+◌, ◌^◌, ◌<◌, ◌≤◌, length, Ok, Err, MatchResult};
 ghost use Rattle.fields.specs.Fields.{in_turn, starts};
-ghost use Rattle.table.specs.Few.{items_of};
 ghost use Rattle.table.specs.File.{added, has_room, model_file, one_more, read_branches, sound_numbers, step_field};
 ghost use Rattle.table.specs.Meaning.{states_of, table_of};
 
@@ -99,9 +98,11 @@ impl Table {
 
     /// Whether a state may have one more step, with `count` branches.
     fn has_room(&self, state: usize, count: usize) -> bool
-        requires { state < length (items_of self.now.rows) }
+        requires { state < length self.now.rows.items }
         ensures { result ≡ has_room (states_of self.now) state count }
     {
-        self.rows[state].room() > 0 && self.steps < FILE_STEPS && count <= self.branches.room()
+        !self.rows[state].is_full()
+            && self.steps < FILE_STEPS
+            && count <= self.branches.remaining_capacity()
     }
 }

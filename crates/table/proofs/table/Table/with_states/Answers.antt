@@ -7,17 +7,16 @@ use Rattle.model.specs.Lists.{greatest}
 use Rattle.model.specs.Model.{Step, lawful, total}
 use Rattle.model.specs.declared.Branch.{Branch}
 use Rattle.table.specs.Arrays.{Row, branches_in, measured, placed, row_in, states_in, step_in, steps_in}
-use Rattle.table.specs.Few.{items_of}
-use Rattle.table.proofs.Arrays.{Inside, placed_from_parts}
+use Rattle.table.proofs.Arrays.{Inside, no_row, placed_from_parts}
 use Rattle.table.proofs.Measures.{all_repeated, greatest_empty, lawful_empty}
 use Rattle.table.proofs.table.Table.with_states.Goals as goal
 
-no_steps : (n : ℕ) (rows : List Row) (r : Row) (bs : List Branch) → rows ≡ replicate n r → items_of r ≡ [] → states_in rows bs ≡ replicate n []
+no_steps : (n : ℕ) (rows : List Row) (r : Row) (bs : List Branch) → rows ≡ replicate n r → r.items ≡ [] → states_in rows bs ≡ replicate n []
 no_steps n rows r bs e h = ap (map (row_in bs)) e ∙ (map-replicate (row_in bs) n r ∙ ap (λ es. replicate n (map (step_in bs) es)) h)
 
-none_placed : (n : ℕ) (rows : List Row) (r : Row) (bs : List Branch) → rows ≡ replicate n r → items_of r ≡ [] → placed rows bs ≡ true
+none_placed : (n : ℕ) (rows : List Row) (r : Row) (bs : List Branch) → rows ≡ replicate n r → r.items ≡ [] → placed rows bs ≡ true
 none_placed n rows r bs e h =
-    placed_from_parts rows bs (rw e (all_repeated (λ x. All (Inside (length bs)) (items_of x)) n r (rw h tt)))
+    placed_from_parts rows bs (rw e (all_repeated (λ x. All (Inside (length bs)) x.items) n r (rw h tt)))
 
 record Facts (ss : List (List Step)) : Type 0 where
   laws : lawful (measured ss) ≡ true
@@ -37,15 +36,19 @@ facts n ss h e = rw e (record {
 
 pub invariant_of-result : goal.invariant_of-result
 invariant_of-result c =
-    let f = facts c.args.states _ c.requires (no_steps c.args.states _ c.new-row.result _ c.repeated.ensures c.new-row.ensures) in
+    let n : c.loop.counter ≡ c.args.states = omega arith in
+    let all = c.loop.invariant ∙ ap (λ k. replicate k no_row) n in
+    let f = facts c.args.states _ c.requires (no_steps c.args.states _ no_row _ all refl) in
     record {
-      placed = none_placed c.args.states _ c.new-row.result _ c.repeated.ensures c.new-row.ensures;
+      placed = none_placed c.args.states _ no_row _ all refl;
       laws = f.laws;
       steps_counted = f.steps;
-      branches_counted = ap length c.new.ensures ∙ f.branches;
+      branches_counted = ap length c.new-2.ensures ∙ f.branches;
       steps_measured = f.most_steps;
       total_measured = f.most_total;
     }
 
 pub returns : goal.returns
-returns c = no_steps c.args.states _ c.new-row.result _ c.repeated.ensures c.new-row.ensures
+returns c =
+    let n : c.loop.counter ≡ c.args.states = omega arith in
+    no_steps c.args.states _ no_row _ (c.loop.invariant ∙ ap (λ k. replicate k no_row) n) refl

@@ -1,6 +1,0 @@
--- The items of a Few. Assumes nothing.
-use Rattle.std.specs.Prelude.{ℕ, List, take}
-use Rattle.table.specs.declared.few.Few.{Few}
-
-abbrev pub items_of : {T : Type 0} {N : ℕ} → Few T N → List T
-items_of few = take few.count few.places
