@@ -1,6 +1,6 @@
--- A chain's result in std's words on lists, and the same in ours; lists that are gone through by place. Assumes nothing.
-use Rattle.std.proofs.Common.{◌≡◌, ℕ, max, Bool, true, false, cond, ◌&&◌, ◌||◌, List, [], ◌∷◌, map, length, get_or, filter, None, Some, Option, refl, ap, ◌∙◌, arith}
-use Rattle.std.specs.List.{fold, list_all, list_any, range_with_len, reduce, sum_by}
+-- A chain's result in std's words on lists, and the greatest in ours; lists that are gone through by place. Assumes nothing.
+use Rattle.std.proofs.Common.{◌≡◌, ℕ, max, Bool, true, false, cond, ◌||◌, List, [], ◌∷◌, map, length, get_or, filter, None, Some, Option, refl, ap, ◌∙◌, arith}
+use Rattle.std.specs.List.{fold, list_any, range_with_len, reduce, sum_by}
 use Rattle.std.specs.Iterator.{YieldsFirst}
 use Rattle.std.specs.Option.{option_map, unwrap_or}
 use Rattle.std.proofs.lemmas.Iterator.{YieldsList}
@@ -9,16 +9,12 @@ use Rattle.std.proofs.lemmas.List.{get_or_default, same_lists}
 use Rattle.std.proofs.lemmas.List.FromFn.{get_or-map-range_with_len, length-map-range_with_len}
 use Rattle.std.proofs.lemmas.List.Sums.{sum_by-cons}
 use Rattle.fields.specs.declared.values.Values.{Values}
-use Rattle.model.specs.Lists.{all, any, greatest}
+use Rattle.model.specs.Lists.{greatest}
 
 -- the values that some bytes hold come in turn
 pub held_in_turn : {A P : Type 0} (held : List ℕ → List A) (values : Values P)
     → YieldsList (YieldsFirst (λ s. held s.bytes.now)) (λ x. x) values (held values.bytes.now)
 held_in_turn held values = YieldsList-from_first (λ x. x) (λ s. held s.bytes.now) (held values.bytes.now) refl
-
-pub all_is : {X : Type 0} (p : X → Bool) (xs : List X) → list_all p xs ≡ all p xs
-all_is p [] = refl
-all_is p (x ∷ xs) = ap (λ b. p x && b) (all_is p xs)
 
 greatest_from : (n : ℕ) (xs : List ℕ) → fold max n xs ≡ max n (greatest xs)
 greatest_from n [] = omega arith
@@ -39,12 +35,12 @@ module _ {X : Type 0} (xs : List X) (d : X) where
       same_lists _ xs long
       (λ k e h. get_or-map-range_with_len at 0 (length xs) k k e (omega arith) (omega arith) ∙ get_or_default xs k d e (omega arith))
 
-  any-map : {Y : Type 0} (p : X → Bool) (f : Y → X) (ys : List Y) → list_any (λ y. p (f y)) ys ≡ any p (map f ys)
+  any-map : {Y : Type 0} (p : X → Bool) (f : Y → X) (ys : List Y) → list_any (λ y. p (f y)) ys ≡ list_any p (map f ys)
   any-map p f [] = refl
   any-map p f (y ∷ ys) = ap (λ b. p (f y) || b) (any-map p f ys)
 
-  pub any_place : (p : X → Bool) → list_any (λ i. p (get_or xs i d)) (range_with_len 0 (length xs)) ≡ any p xs
-  any_place p = any-map p (λ i. get_or xs i d) (range_with_len 0 (length xs)) ∙ ap (any p) elements
+  pub any_place : (p : X → Bool) → list_any (λ i. p (get_or xs i d)) (range_with_len 0 (length xs)) ≡ list_any p xs
+  any_place p = any-map p (λ i. get_or xs i d) (range_with_len 0 (length xs)) ∙ ap (list_any p) elements
 
   module _ (w : X → ℕ) (p : X → Bool) where
     sum-map-filter : {Y : Type 0} (f : Y → X) (ys : List Y)

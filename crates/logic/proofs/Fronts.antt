@@ -1,6 +1,6 @@
 -- The part at the front of some bytes, and a test of parts in two halves. Assumes nothing.
 use Rattle.std.proofs.Common.{◌≡◌, ℕ, ◌+◌, ◌*◌, ◌<◌, ◌≤◌, Bool, true, false, ◌&&◌, List, [], ◌∷◌, map, length, get_or, take, drop, refl, ap₂, arith}
-use Rattle.model.specs.Lists.{all}
+use Rattle.std.specs.List.{list_all}
 use Rattle.theory.specs.Sentences.{one_of_first, sound_share}
 use Rattle.theory.specs.declared.Part.{Part}
 use Rattle.logic.specs.File.{parts_of}
@@ -43,6 +43,6 @@ parts_more (l ∷ i ∷ a ∷ b ∷ c ∷ d ∷ e ∷ f ∷ g ∷ h ∷ bytes) t
 parts_more bytes ten = absurd (omega arith)
 
 -- the parts of a step-line that may stand behind i lines
-pub sound_parts : (i : ℕ) (qs : List Part) → all (sound_part i) qs ≡ (all (one_of_first i) (map (λ q. q.line) qs) && all sound_share qs)
+pub sound_parts : (i : ℕ) (qs : List Part) → list_all (sound_part i) qs ≡ (list_all (one_of_first i) (map (λ q. q.line) qs) && list_all sound_share qs)
 sound_parts i [] = refl
 sound_parts i (q ∷ qs) = rw (sound_parts i qs) (and_swap (one_of_first i q.line) (sound_share q) _ _)

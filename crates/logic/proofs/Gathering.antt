@@ -1,6 +1,6 @@
 -- Words of sets that are met or joined one after another, and the words that stand for some sets. Assumes nothing.
 use Rattle.std.proofs.Common.{◌≡◌, ℕ, zero, suc, ◌+◌, ◌*◌, ◌%◌, ◌≤◌, ◌++◌, cond, filter, inl, inr, ◌-◌, ◌^◌, ◌<◌, true, false, ◌&&◌, ◌||◌, eqb, List, [], ◌∷◌, map, get_or, sym, refl, ap, ◌∙◌, arith}
-use Rattle.std.specs.List.{fold, range_with_len}
+use Rattle.std.specs.List.{fold, list_all, list_any, range_with_len}
 use Rattle.std.proofs.Math.Bool.{and-true, and_assoc, or-false, or_assoc}
 use Rattle.std.proofs.lemmas.Bool.{cases_Bool}
 use Rattle.std.proofs.lemmas.List.{map-id}
@@ -9,7 +9,6 @@ use Rattle.std.proofs.lemmas.List.Sums.{fold-append}
 use Rattle.std.proofs.lemmas.Nat.{one_shl}
 use Rattle.std.proofs.lemmas.Nat.Bits.{bit_at-zero}
 use lib.Bits.{bit_and, bit_or}
-use Rattle.model.specs.Lists.{all, any}
 use Rattle.model.proofs.Elements.{get_or_map_default}
 use Rattle.theory.specs.Sentences.{StateSet, nowhere, set_of}
 use Rattle.logic.specs.Words.{has, sets_in, word}
@@ -47,22 +46,22 @@ module _ (n : ℕ) (sets : List StateSet) (words : List ℕ) (same : words ≡ m
 
 -- the words of the lines that are named, each met with those before it or joined to them
 module _ (n : ℕ) (F : ℕ → StateSet) where
-  met : (X : StateSet) (is : List ℕ) → fold (λ w i. bit_and w (word n (F i))) (word n X) is ≡ word n (λ s. X s && all (λ i. F i s) is)
+  met : (X : StateSet) (is : List ℕ) → fold (λ w i. bit_and w (word n (F i))) (word n X) is ≡ word n (λ s. X s && list_all (λ i. F i s) is)
   met X [] = word_same n X (λ s. X s && true) (λ s l. sym (and-true (X s)))
   met X (i ∷ is) =
       ap (λ w. fold (λ v j. bit_and v (word n (F j))) w is) (sym (word_and n X (F i))) ∙ met (λ s. X s && F i s) is
-      ∙ word_same n _ _ (λ s l. and_assoc (X s) (F i s) (all (λ j. F j s) is))
+      ∙ word_same n _ _ (λ s l. and_assoc (X s) (F i s) (list_all (λ j. F j s) is))
 
-  joined : (X : StateSet) (is : List ℕ) → fold (λ w i. bit_or w (word n (F i))) (word n X) is ≡ word n (λ s. X s || any (λ i. F i s) is)
+  joined : (X : StateSet) (is : List ℕ) → fold (λ w i. bit_or w (word n (F i))) (word n X) is ≡ word n (λ s. X s || list_any (λ i. F i s) is)
   joined X [] = word_same n X (λ s. X s || false) (λ s l. sym (or-false (X s)))
   joined X (i ∷ is) =
       ap (λ w. fold (λ v j. bit_or v (word n (F j))) w is) (sym (word_or n X (F i))) ∙ joined (λ s. X s || F i s) is
-      ∙ word_same n _ _ (λ s l. or_assoc (X s) (F i s) (any (λ j. F j s) is))
+      ∙ word_same n _ _ (λ s l. or_assoc (X s) (F i s) (list_any (λ j. F j s) is))
 
-  pub met_all : (is : List ℕ) → fold (λ w i. bit_and w (word n (F i))) (word n (λ s. true)) is ≡ word n (λ s. all (λ i. F i s) is)
+  pub met_all : (is : List ℕ) → fold (λ w i. bit_and w (word n (F i))) (word n (λ s. true)) is ≡ word n (λ s. list_all (λ i. F i s) is)
   met_all = met (λ s. true)
 
-  pub joined_all : (is : List ℕ) → fold (λ w i. bit_or w (word n (F i))) 0 is ≡ word n (λ s. any (λ i. F i s) is)
+  pub joined_all : (is : List ℕ) → fold (λ w i. bit_or w (word n (F i))) 0 is ≡ word n (λ s. list_any (λ i. F i s) is)
   joined_all is = ap (λ w. fold (λ v j. bit_or v (word n (F j))) w is) (sym (word_nowhere n)) ∙ joined nowhere is
 
 -- a word is gathered from the bits of the states that its set has

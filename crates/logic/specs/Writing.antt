@@ -1,7 +1,6 @@
 -- The bytes of a sentence, and which sentences a file can hold. Assumes nothing.
 use Rattle.std.specs.Prelude.{◌≡◌, ℕ, ◌/◌, ◌%◌, ◌<◌, Bool, true, ◌&&◌, List, [], ◌∷◌, ◌++◌, length, Ok, nat_le, nat_lt}
-use Rattle.std.specs.List.{flat_map, AllByRecursion}
-use Rattle.model.specs.Lists.{all}
+use Rattle.std.specs.List.{AllByRecursion, flat_map, list_all}
 use Rattle.theory.specs.Sentences.{all_of, any_of, Line, not_of, step_to, well_formed}
 use Rattle.theory.specs.declared.Part.{Part}
 use Rattle.logic.specs.File.{sentence_file}
@@ -36,7 +35,7 @@ sentence_bytes ls = flat_map line_bytes ls
 
 -- A file holds at most 4,095 lines, and two bytes give the length of each.
 abbrev pub fits_file : List Line → Bool
-fits_file ls = nat_le (length ls) 4095 && all (λ l. nat_lt (length (value_of l)) 65536) ls
+fits_file ls = nat_le (length ls) 4095 && list_all (λ l. nat_lt (length (value_of l)) 65536) ls
 
 -- A well-formed sentence that fits a file is written in bytes, and they read back as the same sentence.
 pub record ReadsBack (ls : List Line) : Type 0 where

@@ -1,6 +1,6 @@
 // A line of a sentence over the bytes of its file: how it is read, and whether it may stand where it stands.
 ghost use Rattle.std.specs.Prelude.{◌≡◌, ◌+◌, ◌-◌, ◌*◌, ◌<◌, [], ◌∷◌, length, Ok, Err, MatchOption, MatchResult, slice_index_or};
-ghost use Rattle.model.specs.Lists.{all};
+ghost use Rattle.std.specs.List.{list_all};
 ghost use Rattle.theory.specs.Sentences.{fits_after, one_of_first};
 ghost use Rattle.logic.specs.File.{line_behind, line_of, step_line};
 ghost use Rattle.logic.specs.Format.{kind_tag};

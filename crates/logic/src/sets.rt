@@ -1,6 +1,6 @@
 // Where a line holds, as a word with bit s for state s, from the words of the lines before it.
 ghost use Rattle.std.specs.Prelude.{◌≡◌, ◌<◌, ◌≤◌, ◌^◌, ◌&&◌, ◌==◌, ℕ, true, slice_index};
-ghost use Rattle.model.specs.Lists.{all};
+ghost use Rattle.std.specs.List.{list_all};
 ghost use Rattle.model.specs.Model.{count, step_at};
 ghost use Rattle.theory.specs.Sentences.{line_holds, part_holds, set_of, share, step_to};
 ghost use Rattle.logic.specs.File.{parts_of};
@@ -82,7 +82,7 @@ impl<'a, S: Source> Sets<'a, S> {
     fn passes(&self, state: usize, step: usize, action: u8, mut parts: Values<Parts>) -> bool
         ensures { let a = step_at (S.meaning self.now.source.now) state step in
             result ≡ ((a.action == action)
-            && all (part_holds (sets_in self.now.words.now) a) (parts_of parts.entry.bytes.now)) }
+            && list_all (part_holds (sets_in self.now.words.now) a) (parts_of parts.entry.bytes.now)) }
     {
         self.source.action(state, step) == action
             && parts.all(|part| self.part_holds(state, step, part))

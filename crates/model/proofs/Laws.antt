@@ -1,10 +1,9 @@
 -- The laws of a model one by one, out of the test and back into it, what keeps them, and what they bound. Assumes nothing.
 use Rattle.std.proofs.Common.{◌≡◌, ℕ, ◌<◌, ◌≤◌, Bool, true, ◌&&◌, leb, ◌⊎◌, List, [], length, refl, inl, inr, arith}
-use Rattle.std.specs.List.{AllByRecursion as All}
+use Rattle.std.specs.List.{AllByRecursion as All, list_all}
 use Rattle.std.proofs.ByRecursion.{All-weaker}
 use Rattle.std.proofs.lemmas.Bool.{cases_lt}
 use Rattle.std.proofs.lemmas.Bool.Decides.{nat_tests}
-use Rattle.model.specs.Lists.{all}
 use Rattle.model.specs.Model.{Model, Step, branch_at, count, lawful, lawful_step, no_branch, no_step, rising, sound_branch, step_at, steps_of, total, void}
 use Rattle.model.specs.declared.Branch.{Branch}
 use Rattle.model.proofs.Tests.{all_at, all_true, each_true}
@@ -19,7 +18,7 @@ pub record LawfulStep (n z : ℕ) (a : Step) : Type 0 where
 
 pub step_parts : (n z : ℕ) (a : Step) → lawful_step n z a ≡ true → LawfulStep n z a
 step_parts n z a h =
-    let each : all (sound_branch n) a.branches ≡ true = grind (arith, nat_tests) in
+    let each : list_all (sound_branch n) a.branches ≡ true = grind (arith, nat_tests) in
     record {
       known = grind (arith, nat_tests);
       some = grind (arith, nat_tests);
@@ -46,11 +45,11 @@ pub record Lawful (m : Model) : Type 0 where
   pub rows : All (LawfulRow (count m) m.p m.z) m.states
 
 abbrev lawful_row : Model → List Step → Bool
-lawful_row m row = leb (length row) m.p && all (lawful_step (count m) m.z) row
+lawful_row m row = leb (length row) m.p && list_all (lawful_step (count m) m.z) row
 
 pub lawful_parts : (m : Model) → lawful m ≡ true → Lawful m
 lawful_parts m h =
-    let each : all (lawful_row m) m.states ≡ true = grind (arith, nat_tests) in
+    let each : list_all (lawful_row m) m.states ≡ true = grind (arith, nat_tests) in
     record {
       few = grind (arith, nat_tests);
       steps = grind (arith, nat_tests);
@@ -61,7 +60,7 @@ lawful_parts m h =
       ];
       rows = All-weaker _ _ (λ row e. (
         grind (arith, nat_tests),
-        let steps : all (lawful_step (count m) m.z) row ≡ true = grind (arith, nat_tests) in
+        let steps : list_all (lawful_step (count m) m.z) row ≡ true = grind (arith, nat_tests) in
             All-weaker _ _ (step_parts (count m) m.z) row (each_true (lawful_step (count m) m.z) row steps),
       )) m.states (each_true (lawful_row m) m.states each);
     }

@@ -1,7 +1,7 @@
 -- A model: states with steps, a step being an action and a list of weighted branches. Its laws, and what a question about
 -- it is answered. Assumes nothing.
 use Rattle.std.specs.Prelude.{ℕ, ◌+◌, Bool, true, ◌&&◌, ◌||◌, List, [], ◌∷◌, length, sum_by, ◌==◌, nat_le, nat_lt, slice_index_or}
-use Rattle.model.specs.Lists.{all}
+use Rattle.std.specs.List.{list_all}
 use Rattle.model.specs.declared.Branch.{Branch}
 
 pub record Step : Type 0 where
@@ -42,14 +42,14 @@ sound_branch n b = nat_lt b.target n && nat_lt 0 b.weight
 abbrev pub lawful_step : ℕ → ℕ → Step → Bool
 lawful_step n z a =
     nat_lt a.action 32 && nat_lt 0 (length a.branches) && rising 0 a.branches
-    && all (sound_branch n) a.branches && nat_le (total a) z
+    && list_all (sound_branch n) a.branches && nat_le (total a) z
 
 -- The laws of a model. One without states has both measures 0.
 abbrev pub lawful : Model → Bool
 lawful m =
     nat_le (count m) 64 && nat_le m.p 300 && nat_le m.z 1000000000
     && (nat_lt 0 (count m) || (m.p == 0 && m.z == 0))
-    && all (λ row. nat_le (length row) m.p && all (lawful_step (count m) m.z) row) m.states
+    && list_all (λ row. nat_le (length row) m.p && list_all (lawful_step (count m) m.z) row) m.states
 
 -- What stands for a step or a branch that does not exist.
 abbrev pub no_step : Step

@@ -1,7 +1,8 @@
 -- What a table's arrays stand for. Assumes nothing.
 use Rattle.std.specs.Prelude.{ℕ, ◌+◌, ◌^◌, Bool, cond, List, [], ◌∷◌, ◌++◌, map, length, take, drop, Some, None, sum_by, Option, nat_le, nat_lt, slice_index_or, slice_set}
 use Rattle.arrayvec.specs.ArrayVec.{ArrayVec}
-use Rattle.model.specs.Lists.{all, greatest}
+use Rattle.std.specs.List.{list_all}
+use Rattle.model.specs.Lists.{greatest}
 use Rattle.model.specs.Model.{Model, Step, total}
 use Rattle.model.specs.declared.Branch.{Branch}
 use Rattle.table.specs.declared.row.Entry.{Entry}
@@ -43,4 +44,4 @@ branches_in ss = sum_by (λ row. sum_by (λ a. length a.branches) row) ss
 
 -- each step keeps to the branches
 abbrev pub placed : List Row → List Branch → Bool
-placed rows bs = all (λ r. all (λ e. nat_le (e.first + e.count) (length bs)) r.items) rows
+placed rows bs = list_all (λ r. list_all (λ e. nat_le (e.first + e.count) (length bs)) r.items) rows

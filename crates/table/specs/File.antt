@@ -3,7 +3,7 @@ use Rattle.std.specs.Prelude.{ℕ, ◌+◌, ◌*◌, Bool, cond, ◌&&◌, List,
 use Rattle.fields.specs.Fields.{Read, Start, field_of, in_turn, of_file, starts, then}
 use Rattle.fields.specs.declared.fault.FileFault.{FileFault}
 use Rattle.fields.specs.declared.fault.FileFault.TheVariants.{Limit, Number}
-use Rattle.model.specs.Lists.{all}
+use Rattle.std.specs.List.{list_all}
 use Rattle.model.specs.Model.{Model, Step, rising, sound_branch, total}
 use Rattle.model.specs.declared.Branch.{Branch}
 use Rattle.table.specs.Arrays.{branches_in, measured, steps_in, with_step}
@@ -20,7 +20,7 @@ read_branches (target ∷ high ∷ low ∷ bytes) = record { target = target; we
 
 -- targets below n that rise, and weights of at least 1
 abbrev pub sound_branches : ℕ → List Branch → Bool
-sound_branches n bs = rising 0 bs && all (sound_branch n) bs
+sound_branches n bs = rising 0 bs && list_all (sound_branch n) bs
 
 -- a step of state s of n, with all its numbers in range and order
 abbrev pub sound_numbers : ℕ → ℕ → Step → Bool

@@ -1,16 +1,15 @@
 -- Tests and functions that agree on the elements of a list, and sets on the targets of a step; what holds of all elements. Assumes nothing.
 use Rattle.std.proofs.Common.{◌≡◌, Bool, List, [], ◌∷◌, map, filter, refl, ap}
-use Rattle.std.specs.List.{AllByRecursion as All}
-use Rattle.model.specs.Lists.{all, any}
+use Rattle.std.specs.List.{AllByRecursion as All, list_all, list_any}
 use Rattle.model.specs.Model.{Step, mass}
 use Rattle.theory.specs.Sentences.{StateSet, share}
 
 module _ {X : Type 0} (p q : X → Bool) where
-  pub all_same : (xs : List X) → All (λ x. p x ≡ q x) xs → all p xs ≡ all q xs
+  pub all_same : (xs : List X) → All (λ x. p x ≡ q x) xs → list_all p xs ≡ list_all q xs
   all_same [] h = refl
   all_same (x ∷ xs) h = rw (h.0, all_same xs h.1)
 
-  pub any_same : (xs : List X) → All (λ x. p x ≡ q x) xs → any p xs ≡ any q xs
+  pub any_same : (xs : List X) → All (λ x. p x ≡ q x) xs → list_any p xs ≡ list_any q xs
   any_same [] h = refl
   any_same (x ∷ xs) h = rw (h.0, any_same xs h.1)
 

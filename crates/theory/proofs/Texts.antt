@@ -1,10 +1,9 @@
 -- A text of lines, what one more line adds to it, what its lines name and how deep they are. Assumes nothing.
 use Rattle.std.proofs.Common.{◌≡◌, ℕ, suc, ◌+◌, ◌-◌, ◌<◌, ◌≤◌, true, ltb, leb, List, [], ◌∷◌, ◌++◌, length, get_or, sym, refl, ap, ◌∙◌, add-zero, zero-add, arith}
-use Rattle.std.specs.List.{AllByRecursion as All}
+use Rattle.std.specs.List.{AllByRecursion as All, list_all}
 use Rattle.std.proofs.ByRecursion.{All-push, All-weaker}
 use Rattle.std.proofs.lemmas.List.{get_or_append_left, length_push}
 use Rattle.std.proofs.lemmas.Bool.{and_from, and_parts, leb-true, ltb-true}
-use Rattle.model.specs.Lists.{all}
 use Rattle.model.specs.Model.{Model}
 use Rattle.model.proofs.Greatest.{greatest_least}
 use Rattle.model.proofs.Tests.{all_at, each_true}
@@ -48,7 +47,7 @@ depths_push = run_push line_depth depths_from (λ _. refl) (λ _ _ _. refl) []
 -- a line that may stand behind i others names some of them
 pub names_between : (i : ℕ) (l : Line) → fits_after i l ≡ true → All (λ j. (0 < j) × (j ≤ i)) (names l)
 names_between i l h =
-    let each = each_true (one_of_first i) (names l) (and_parts (all (one_of_first i) (names l)) (in_range l) h).0 in
+    let each = each_true (one_of_first i) (names l) (and_parts (list_all (one_of_first i) (names l)) (in_range l) h).0 in
     All-weaker _ _ (λ j e. let r = and_parts (ltb 0 j) (leb j i) e in (ltb-true 0 j r.0, leb-true j i r.1)) (names l) each
 
 well_formed_from_push : (i : ℕ) (ls : List Line) (l : Line)

@@ -1,6 +1,7 @@
 -- Sentences: numbered lines, each over earlier ones; where they hold, and how deep they are. Assumes nothing.
 use Rattle.std.specs.Prelude.{ℕ, ◌+◌, ◌-◌, ◌*◌, Bool, true, false, not, ◌&&◌, List, [], ◌∷◌, ◌++◌, map, length, filter, ◌==◌, nat_le, nat_lt, slice_index, slice_index_or}
-use Rattle.model.specs.Lists.{all, any, greatest}
+use Rattle.std.specs.List.{list_all, list_any}
+use Rattle.model.specs.Lists.{greatest}
 use Rattle.model.specs.Model.{Model, Step, mass, steps_of, total}
 use Rattle.theory.specs.declared.Part.{Part}
 
@@ -27,7 +28,7 @@ abbrev pub in_range : Line → Bool
 in_range (not_of i) = true
 in_range (all_of is) = true
 in_range (any_of is) = true
-in_range (step_to act qs) = nat_lt act 32 && all sound_share qs
+in_range (step_to act qs) = nat_lt act 32 && list_all sound_share qs
 
 -- j is the number of one of the first i lines
 abbrev pub one_of_first : ℕ → ℕ → Bool
@@ -35,7 +36,7 @@ one_of_first i j = nat_lt 0 j && nat_le j i
 
 -- a line that may stand behind i others
 abbrev pub fits_after : ℕ → Line → Bool
-fits_after i l = all (one_of_first i) (names l) && in_range l
+fits_after i l = list_all (one_of_first i) (names l) && in_range l
 
 abbrev pub well_formed_from : ℕ → List Line → Bool
 well_formed_from i [] = true
@@ -65,9 +66,9 @@ part_holds sets a q = nat_le (q.k * total a) (share (set_of sets q.line) a * q.m
 
 abbrev pub line_holds : Model → List StateSet → Line → StateSet
 line_holds m sets (not_of i) s = not (set_of sets i s)
-line_holds m sets (all_of is) s = all (λ i. set_of sets i s) is
-line_holds m sets (any_of is) s = any (λ i. set_of sets i s) is
-line_holds m sets (step_to act qs) s = any (λ a. (a.action == act) && all (part_holds sets a) qs) (steps_of m s)
+line_holds m sets (all_of is) s = list_all (λ i. set_of sets i s) is
+line_holds m sets (any_of is) s = list_any (λ i. set_of sets i s) is
+line_holds m sets (step_to act qs) s = list_any (λ a. (a.action == act) && list_all (part_holds sets a) qs) (steps_of m s)
 
 -- the sets of all lines, those in front being known
 abbrev pub sets_from : Model → List StateSet → List Line → List StateSet

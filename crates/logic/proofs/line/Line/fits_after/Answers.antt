@@ -7,7 +7,7 @@ use Rattle.fields.specs.Bytes.{numbers}
 use Rattle.theory.specs.Sentences.{one_of_first}
 use Rattle.logic.specs.File.{parts_of}
 use Rattle.logic.specs.Lines.{sound_part}
-use Rattle.logic.proofs.Chains.{all_is, held_in_turn}
+use Rattle.logic.proofs.Chains.{held_in_turn}
 use Rattle.logic.proofs.Fronts.{sound_parts}
 use Rattle.logic.proofs.line.Line.fits_after.Goals as goal
 use Rattle.logic.proofs.line.Line.fits_after.Goals.{in-All, in-All-2}
@@ -17,11 +17,11 @@ returns-then-action-lt-ACTIONS c =
     let told = all_from_yields_List (sound_part c.args.before) c.all.new.self _ c.all.result c.all.ensures.ran
     (held_in_turn parts_of c.in-Step.parts) (λ x b q k. search (rules, tests)) in
     rw (c.in-Step.is, lt-ltb c.in-Step.action 32 c.if-action-lt-ACTIONS.true)
-    (told ∙ all_is (sound_part c.args.before) (parts_of c.in-Step.parts.bytes.now) ∙ sound_parts c.args.before (parts_of c.in-Step.parts.bytes.now))
+    (told ∙ sound_parts c.args.before (parts_of c.in-Step.parts.bytes.now))
 
 pub returns-in-All : goal.returns-in-All
 returns-in-All c =
     let told = all_from_yields_List (one_of_first c.args.before) c.all-in-All.new.self _ c.all-in-All.result c.all-in-All.ensures.ran
     (held_in_turn numbers _) (λ x b q k. search (rules, tests)) in
-    let same = rw all_is at told in
+    let same = told in
     grind (arith, and-true)

@@ -6,7 +6,7 @@ use Rattle.model.specs.Model.{Model, Step, step_at}
 use Rattle.theory.specs.Sentences.{part_holds}
 use Rattle.logic.specs.File.{parts_of}
 use Rattle.logic.specs.Words.{sets_in}
-use Rattle.logic.proofs.Chains.{all_is, held_in_turn}
+use Rattle.logic.proofs.Chains.{held_in_turn}
 use Rattle.logic.proofs.sets.Sets.passes.Goals as goal
 
 pub returns-then-action : goal.returns-then-action
@@ -16,4 +16,4 @@ returns-then-action g c =
     let holds = part_holds (sets_in c.args.self.now.words.now) a in
     let told = all_from_yields_List holds c.all.new.self _ c.all.result c.all.ensures.ran
     (held_in_turn parts_of c.args.parts) (λ x b q k. search (rules, tests)) in
-    rw (eq-eqb a.action c.args.action (sym c.action.ensures ∙ c.if-action.true)) (told ∙ all_is holds (parts_of c.args.parts.bytes.now))
+    rw (eq-eqb a.action c.args.action (sym c.action.ensures ∙ c.if-action.true)) told
