@@ -4,23 +4,18 @@
 use anyhow::anyhow;
 use fields::file::Fields;
 use logic::fault::{JudgeFault, Verdict};
-use logic::format::SentenceField;
+use logic::format::{LINES, SentenceField};
 use logic::judge::judge;
 use std::io::Read;
 use std::{env, fs, io};
 use table::table::Table;
 
-/// The most lines of a sentence.
-const LINES: usize = 4095;
-
 /// The depth of a line, and the states where it holds.
 fn list_verdict(rt: &impl Print, verdict: Verdict) -> io::Result<()> {
     let depth = verdict.depth;
     print!(rt; "depth {depth} states")?;
-    for state in 0..64u64 {
-        if (verdict.set >> state) & 1 == 1 {
-            print!(rt; " {state}")?;
-        }
+    for state in (0..64u64).filter(|state| (verdict.set >> *state) & 1 == 1) {
+        print!(rt; " {state}")?;
     }
     println!(rt)
 }

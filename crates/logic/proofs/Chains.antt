@@ -1,20 +1,11 @@
 -- A chain's result in std's words on lists, and the greatest in ours; lists that are gone through by place. Assumes nothing.
 use Rattle.std.proofs.Common.{◌≡◌, ℕ, max, Bool, true, false, cond, ◌||◌, List, [], ◌∷◌, map, length, get_or, filter, None, Some, Option, refl, ap, ◌∙◌, arith}
 use Rattle.std.specs.List.{fold, list_any, range_with_len, reduce, sum_by}
-use Rattle.std.specs.Iterator.{YieldsFirst}
 use Rattle.std.specs.Option.{option_map, unwrap_or}
-use Rattle.std.proofs.lemmas.Iterator.{YieldsList}
-use Rattle.std.proofs.lemmas.Iterator.Consumers.{YieldsList-from_first}
 use Rattle.std.proofs.lemmas.List.{get_or_default, same_lists}
 use Rattle.std.proofs.lemmas.List.FromFn.{get_or-map-range_with_len, length-map-range_with_len}
 use Rattle.std.proofs.lemmas.List.Sums.{sum_by-cons}
-use Rattle.fields.specs.declared.values.Values.{Values}
 use Rattle.model.specs.Lists.{greatest}
-
--- the values that some bytes hold come in turn
-pub held_in_turn : {A P : Type 0} (held : List ℕ → List A) (values : Values P)
-    → YieldsList (YieldsFirst (λ s. held s.bytes.now)) (λ x. x) values (held values.bytes.now)
-held_in_turn held values = YieldsList-from_first (λ x. x) (λ s. held s.bytes.now) (held values.bytes.now) refl
 
 greatest_from : (n : ℕ) (xs : List ℕ) → fold max n xs ≡ max n (greatest xs)
 greatest_from n [] = omega arith

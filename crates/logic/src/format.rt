@@ -3,6 +3,9 @@ ghost use Rattle.logic.specs.Format.{allowed_line, due_line, kind_tag};
 
 use fields::field::Rule;
 
+/// The most lines of a sentence file.
+pub const LINES: usize = 4095;
+
 /// The kinds of lines.
 #[derive(Clone, Copy, PartialEq, Eq, Debug)]
 pub enum LineKind {

@@ -6,8 +6,8 @@ ghost use Rattle.logic.specs.Judging.{JudgedSoundly, answered, counted, judged, 
 ghost use Rattle.logic.specs.Writing.{fits_file, sentence_bytes};
 
 use crate::fault::{JudgeFault, Verdict};
-use crate::format::SentenceField;
-use crate::line::{LINES, Line};
+use crate::format::{LINES, SentenceField};
+use crate::line::Line;
 use crate::sets::Sets;
 use fields::fault::{FileFault, Flaw};
 use fields::file::Fields;
@@ -59,6 +59,7 @@ fn evaluate<S: Source>(source: &S, bytes: &[u8], words: &mut [u64]) -> Result<Ve
 {
     let mut depths = [0; LINES];
     let mut last = Verdict { set: 0, depth: 0 };
+    // Words and depths go by index, since each line is judged from those in front of its own.
     for (before, field) in Fields::of(SentenceField, bytes).enumerate() {
         let line = Line::read(&field?, before)?;
         last = Verdict {

@@ -6,16 +6,13 @@ ghost use Rattle.logic.specs.File.{line_behind, line_of, step_line};
 ghost use Rattle.logic.specs.Format.{kind_tag};
 ghost use Rattle.logic.specs.Lines.{meant, sound_part};
 
-use crate::format::LineKind;
+use crate::format::{LINES, LineKind};
 use crate::parts::Parts;
 use fields::fault::FileFault;
 use fields::field::Field;
 use fields::values::{Numbers, Packing, Values};
 use model::ACTIONS;
 use theory::Part;
-
-/// The most lines of a sentence file.
-pub(crate) const LINES: usize = 4095;
 
 /// The largest m of a part.
 const WHOLE: u32 = 1_000_000_000;
@@ -34,7 +31,7 @@ pub(crate) fn named<T: Copy>(values: &[T], line: u16, none: T) -> T
     ensures { result ≡ slice_index_or values.now (line - 1) none }
 {
     values
-        .get((line as usize).saturating_sub(1))
+        .get(usize::from(line).saturating_sub(1))
         .copied()
         .unwrap_or(none)
 }
@@ -43,7 +40,7 @@ pub(crate) fn named<T: Copy>(values: &[T], line: u16, none: T) -> T
 fn is_earlier(line: u16, before: usize) -> bool
     ensures { result ≡ one_of_first before line }
 {
-    0 < line && line as usize <= before
+    0 < line && usize::from(line) <= before
 }
 
 /// Whether a part names one of the first `before` lines, and its share is sound.

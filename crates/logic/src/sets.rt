@@ -75,7 +75,7 @@ impl<'a, S: Source> Sets<'a, S> {
     {
         let share = self.share(state, step, self.named(part.line));
         let total = self.source.total(state, step);
-        share as u64 * part.m as u64 >= part.k as u64 * total as u64
+        u64::from(share) * u64::from(part.m) >= u64::from(part.k) * u64::from(total)
     }
 
     /// Whether a step is one of the action, and every part holds of it.

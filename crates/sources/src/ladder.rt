@@ -55,6 +55,7 @@ impl Ladder {
     }
 }
 
+// What a ladder does not have answers 0 by an `if`: `then_some(x).unwrap_or(0)` is no plainer.
 impl Source for Ladder {
     ghost meaning = { ladder_of };
 

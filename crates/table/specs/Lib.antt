@@ -2,5 +2,6 @@
 pub mod Arrays
 pub mod Format
 pub mod File
+pub mod NewSteps
 pub mod Meaning
 pub mod Worked

@@ -3,6 +3,7 @@
 
 mod bytes;
 pub mod format;
+mod new_step;
 mod row;
 pub mod table;
 pub mod worked;

@@ -2,10 +2,11 @@
 ghost use Rattle.std.specs.Prelude.{◌≡◌, ◌+◌, ◌<◌, ◌≤◌, true, [], length, replicate, slice_index_or};
 ghost use Rattle.model.specs.Model.{lawful_step, total as total_of};
 ghost use Rattle.table.specs.Arrays.{with_step};
-ghost use Rattle.table.specs.File.{has_room, read_branches};
+ghost use Rattle.table.specs.File.{has_room};
+ghost use Rattle.table.specs.NewSteps.{step_given};
 ghost use Rattle.table.specs.Meaning.{starting, states_of, table_of};
 
-use crate::bytes::append;
+use crate::new_step::NewStep;
 use crate::row::{Entry, Row};
 use crate::table::Table;
 use arrayvec::ArrayVec;
@@ -45,23 +46,22 @@ impl Table {
     }
 
     /// Adds a step as the last one of its state.
-    pub(super) fn push(&mut self, state: usize, action: u8, branches: &[u8], total: u32)
-        requires state { state < length self.old.rows.items }
-        requires room { has_room (states_of self.old) state (length (read_branches branches.now)) ≡ true }
-        requires lawful { lawful_step (length self.old.rows.items) 1000000000
-            (record { action = action; branches = read_branches branches.now }) ≡ true }
-        requires total { total ≡ total_of (record { action = action; branches = read_branches branches.now }) }
-        ensures { states_of self.new
-            ≡ with_step (states_of self.old) state (record { action = action; branches = read_branches branches.now }) }
+    pub(super) fn push(&mut self, step: &NewStep, total: u32)
+        requires state { step.now.state < length self.old.rows.items }
+        requires room { has_room (states_of self.old) step.now.state (length (step_given step.now).branches) ≡ true }
+        requires lawful { lawful_step (length self.old.rows.items) 1000000000 (step_given step.now) ≡ true }
+        requires total { total ≡ total_of (step_given step.now) }
+        ensures { states_of self.new ≡ with_step (states_of self.old) step.now.state (step_given step.now) }
     {
         let first = self.branches.len();
-        append(&mut self.branches, branches);
+        step.append(&mut self.branches);
+        // Both numbers are at most 1,024; `try_from` would add a case that never comes.
         let entry = Entry {
-            action,
+            action: step.action,
             first: first as u16,
             count: (self.branches.len() - first) as u16,
         };
-        let row = &mut self.rows[state];
+        let row = &mut self.rows[step.state];
         row.push(entry);
         let steps = row.len();
         self.most_steps = self.most_steps.max(steps);

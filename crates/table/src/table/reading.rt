@@ -4,12 +4,12 @@ ghost use Rattle.fields.specs.Fields.{in_turn, starts};
 ghost use Rattle.table.specs.File.{added, has_room, model_file, one_more, read_branches, sound_numbers, step_field};
 ghost use Rattle.table.specs.Meaning.{states_of, table_of};
 
-use crate::bytes::{count_of, in_order, total_of};
 use crate::format::ModelField;
+use crate::new_step::NewStep;
 use crate::table::Table;
 use fields::fault::FileFault;
 use fields::file::Fields;
-use model::{ACTIONS, STATES};
+use model::STATES;
 
 /// The most steps of a file.
 const FILE_STEPS: usize = 256;
@@ -56,44 +56,23 @@ impl Table {
         let [state, action, branches @ ..] = value else {
             return Err(FileFault::Number(place));
         };
-        self.add_step(usize::from(*state), *action, branches, place)
-    }
-
-    fn add_step(
-        &mut self,
-        state: usize,
-        action: u8,
-        branches: &[u8],
-        place: usize,
-    ) -> Result<(), FileFault>
-        requires { 3 ≤ length branches.now }
-        ensures { MatchResult result
-            (λ _. one_more place (states_of self.old) state (record { action = action; branches = read_branches branches.now })
-            ≡ Ok (states_of self.new))
-            (λ e. one_more place (states_of self.old) state (record { action = action; branches = read_branches branches.now })
-            ≡ Err e) }
-    {
-        if !self.is_sound(state, action, branches) {
+        let step = NewStep {
+            state: usize::from(*state),
+            action: *action,
+            branches,
+        };
+        if !step.is_sound(self.rows.len()) {
             return Err(FileFault::Number(place));
         }
-        if !self.has_room(state, count_of(branches)) {
+        if !self.has_room(step.state, step.count()) {
             return Err(FileFault::Limit(place));
         }
-        let total = total_of(branches);
+        let total = step.total();
         if total > TOTAL {
             return Err(FileFault::Limit(place));
         }
-        self.push(state, action, branches, total);
+        self.push(&step, total);
         Ok(())
-    }
-
-    /// Whether the numbers of a step lie in their ranges and order.
-    fn is_sound(&self, state: usize, action: u8, branches: &[u8]) -> bool
-        ensures { result ≡ sound_numbers (length (states_of self.now)) state
-            (record { action = action; branches = read_branches branches.now }) }
-    {
-        let states = self.rows.len();
-        state < states && action < ACTIONS && in_order(branches, states)
     }
 
     /// Whether a state may have one more step, with `count` branches.

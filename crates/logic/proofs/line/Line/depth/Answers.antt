@@ -7,7 +7,8 @@ use Rattle.fields.specs.Bytes.{numbers}
 use Rattle.theory.specs.Sentences.{depth_at}
 use Rattle.theory.specs.declared.Part.{Part}
 use Rattle.logic.specs.File.{parts_of}
-use Rattle.logic.proofs.Chains.{greatest_is, held_in_turn}
+use Rattle.fields.proofs.Held.{held_in_turn}
+use Rattle.logic.proofs.Chains.{greatest_is}
 use Rattle.logic.proofs.line.Line.depth.Goals as goal
 use Rattle.logic.proofs.line.Line.depth.Goals.{in-All, in-All-2}
 

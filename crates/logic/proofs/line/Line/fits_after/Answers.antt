@@ -7,7 +7,7 @@ use Rattle.fields.specs.Bytes.{numbers}
 use Rattle.theory.specs.Sentences.{one_of_first}
 use Rattle.logic.specs.File.{parts_of}
 use Rattle.logic.specs.Lines.{sound_part}
-use Rattle.logic.proofs.Chains.{held_in_turn}
+use Rattle.fields.proofs.Held.{held_in_turn}
 use Rattle.logic.proofs.Fronts.{sound_parts}
 use Rattle.logic.proofs.line.Line.fits_after.Goals as goal
 use Rattle.logic.proofs.line.Line.fits_after.Goals.{in-All, in-All-2}

@@ -8,7 +8,7 @@ use Rattle.model.specs.Model.{Model, count}
 use Rattle.theory.specs.Sentences.{StateSet, line_holds, set_of}
 use Rattle.logic.specs.Lines.{meant}
 use Rattle.logic.specs.Words.{sets_in, word}
-use Rattle.logic.proofs.Chains.{held_in_turn}
+use Rattle.fields.proofs.Held.{held_in_turn}
 use Rattle.logic.proofs.Gathering.{joined_all, met_all}
 use Rattle.logic.proofs.Words.{word_not}
 use Rattle.logic.proofs.sets.Sets.of_line.Goals as goal

@@ -11,4 +11,4 @@ returns g c =
     let m : Model = g.S.Source.meaning c.args.self.now.source.now in
     let share_is = c.share-share.ensures ∙ ap (λ w. share (has w) (step_at m c.args.state c.args.step)) c.named.ensures
     ∙ share_of_word m (g.met.S.Source.obeys c.args.self.now.source.now) c.args.state c.args.step (set_of (sets_in c.args.self.now.words.now) c.args.part.line) in
-    rw (share_is, c.total-total.ensures)
+    rw (c.from.ensures ∙ share_is, c.from-2.ensures, c.from-3.ensures, c.from-4.ensures ∙ c.total-total.ensures)

@@ -6,7 +6,7 @@ use Rattle.model.specs.Model.{Model, Step, step_at}
 use Rattle.theory.specs.Sentences.{part_holds}
 use Rattle.logic.specs.File.{parts_of}
 use Rattle.logic.specs.Words.{sets_in}
-use Rattle.logic.proofs.Chains.{held_in_turn}
+use Rattle.fields.proofs.Held.{held_in_turn}
 use Rattle.logic.proofs.sets.Sets.passes.Goals as goal
 
 pub returns-then-action : goal.returns-then-action

@@ -71,11 +71,11 @@ written t s action new bs xs rows old r first last known these read start grown 
 pub invariant_of-self : goal.invariant_of-self
 invariant_of-self c =
     let t : Table = c.args.self.now in
-    let put = items-with_items t.rows (set c.deref_mut.result.now c.args.state c.push.new.self) (search rules) in
-    let w = written t c.args.state c.args.action _ _ _ _ _ _ _ _ c.requires.state c.deref_mut.ensures.value (ap (λ d. get_or c.deref_mut.result.now c.args.state d) c.index-deref_mut-state.is)
-    c.len-first.ensures.value c.append.ensures c.len.ensures.value c.push.ensures.items (put ∙ ap (λ xs. set xs c.args.state c.push.new.self) c.deref_mut.ensures.value) in
+    let put = items-with_items t.rows (set c.deref_mut.result.now c.args.step.now.state c.push.new.self) (search rules) in
+    let w = written t c.args.step.now.state c.args.step.now.action _ _ _ _ _ _ _ _ c.requires.state c.deref_mut.ensures.value (ap (λ d. get_or c.deref_mut.result.now c.args.step.now.state d) c.index-deref_mut-step.is)
+    c.len-first.ensures.value c.append.ensures c.len.ensures.value c.push.ensures.items (put ∙ ap (λ xs. set xs c.args.step.now.state c.push.new.self) c.deref_mut.ensures.value) in
     let n : Counts (states_in _ c.append.new.branches.items) _ _ _ _ =
-    rw w.states (counts t c.args.state _ c.requires.state c.requires.room c.requires.lawful) in
+    rw w.states (counts t c.args.step.now.state _ c.requires.state c.requires.room c.requires.lawful) in
     record {
       placed = w.placed;
       laws = n.laws;
@@ -88,6 +88,6 @@ invariant_of-self c =
 pub returns : goal.returns
 returns c =
     let t : Table = c.args.self.now in
-    let put = items-with_items t.rows (set c.deref_mut.result.now c.args.state c.push.new.self) (search rules) in
-    (written t c.args.state c.args.action _ _ _ _ _ _ _ _ c.requires.state c.deref_mut.ensures.value (ap (λ d. get_or c.deref_mut.result.now c.args.state d) c.index-deref_mut-state.is)
-    c.len-first.ensures.value c.append.ensures c.len.ensures.value c.push.ensures.items (put ∙ ap (λ xs. set xs c.args.state c.push.new.self) c.deref_mut.ensures.value)).states
+    let put = items-with_items t.rows (set c.deref_mut.result.now c.args.step.now.state c.push.new.self) (search rules) in
+    (written t c.args.step.now.state c.args.step.now.action _ _ _ _ _ _ _ _ c.requires.state c.deref_mut.ensures.value (ap (λ d. get_or c.deref_mut.result.now c.args.step.now.state d) c.index-deref_mut-step.is)
+    c.len-first.ensures.value c.append.ensures c.len.ensures.value c.push.ensures.items (put ∙ ap (λ xs. set xs c.args.step.now.state c.push.new.self) c.deref_mut.ensures.value)).states

@@ -1,7 +1,7 @@
 -- Assumes nothing.
 use Rattle.std.proofs.Common.{length, ap, arith}
 use Rattle.std.proofs.lemmas.List.{length-append}
-use Rattle.table.proofs.bytes.append.Goals as goal
+use Rattle.table.proofs.new_step.NewStep.append.Goals as goal
 
 pub push-requires : goal.push-requires
 push-requires g c =
