@@ -1,8 +1,8 @@
 -- How far a sentence is judged: the words and the depths of the lines done, and the last one's verdict. Assumes nothing.
-use Rattle.std.proofs.Common.{◌≡◌, ℕ, ◌+◌, ◌-◌, ◌^◌, ◌<◌, true, List, [], ◌∷◌, ◌++◌, map, length, get_or, take, drop, set, replicate, Ok, sym, refl, ap, ◌∙◌, ap₂, arith}
+use Rattle.std.proofs.Common.{◌≡◌, ℕ, ◌+◌, ◌-◌, ◌^◌, ◌<◌, true, List, [], ◌∷◌, ◌++◌, map, length, get_or, take, drop, set, Ok, sym, refl, ap, ◌∙◌, ap₂, arith}
 use Rattle.std.specs.List.{AllByRecursion as All}
 use Rattle.std.proofs.ByRecursion.{All-weaker}
-use Rattle.std.proofs.lemmas.List.{append_assoc, drop_more, get_or_push, length-map, length_push, length-set, length-replicate, map_push, set_at, take_at, take_more_set}
+use Rattle.std.proofs.lemmas.List.{append_assoc, drop_more, get_or_push, length-map, length_push, length-set, map_push, set_at, take_at}
 use Rattle.model.specs.Model.{Model, count, lawful}
 use Rattle.theory.specs.Sentences.{Line, StateSet, depth, depths_of, holds, line_depth, line_holds, nowhere, sets_of}
 use Rattle.theory.proofs.Texts.{depth_at_most, depths_push, length_depths, length_sets, sets_push}
@@ -16,16 +16,14 @@ use Rattle.logic.proofs.Words.{word_nowhere, word_same}
 pub record JudgedTo (m : Model) (before : List ℕ) (done : List Line) (words depths : List ℕ) (last : Verdict) : Type 0 where
   pub in_front : words ≡ words_after m (Ok done) before
   pub size : length words ≡ length before
-  pub deep : take (length done) depths ≡ depths_of done
-  pub room : length depths ≡ 4095
+  pub deep : depths ≡ depths_of done
   pub told : last ≡ verdict m done
 
-pub judged_none : (m : Model) (before : List ℕ) → JudgedTo m before [] before (replicate 4095 0) (record { set = 0; depth = 0 })
+pub judged_none : (m : Model) (before : List ℕ) → JudgedTo m before [] before [] (record { set = 0; depth = 0 })
 judged_none m before = record {
   in_front = refl;
   size = refl;
   deep = refl;
-  room = length-replicate {A = ℕ} 4095 0;
   told = ap (λ w. record { set = w; depth = 0 }) (sym (word_nowhere (count m)));
 }
 
@@ -55,14 +53,14 @@ module _ {m : Model} {before : List ℕ} {done : List Line} {words depths : List
       let alike = words_alike (count m) (sets_of m done) (take i words) words_done in
       word_same (count m) _ _ (lines_alike m law (sets_in (take i words)) (sets_of m done) alike l)
 
-  pub depths_done : take i depths ≡ depths_of done
-  depths_done = ap (λ k. take k depths) (sym here) ∙ judged.deep
+  pub depths_low : i < 4095 → All (λ d. d < 65535) depths
+  depths_low h = rw judged.deep (All-weaker _ _ (λ d low. omega arith) (depths_of done) (depth_at_most done))
 
-  pub depths_low : i < 4095 → All (λ d. d < 65535) (take i depths)
-  depths_low h = rw depths_done (All-weaker _ _ (λ d low. omega arith) (depths_of done) (depth_at_most done))
+  pub length_deep : length depths ≡ i
+  length_deep = ap length judged.deep ∙ length_depths done ∙ here
 
   module _ (l : Line) (w d : ℕ) (w_is : w ≡ word (count m) (line_holds m (sets_of m done) l)) (d_is : d ≡ line_depth (depths_of done) l)
-      (fits : i < length before) (few : i < 4095) where
+      (fits : i < length before) where
     abbrev X : StateSet
     X = line_holds m (sets_of m done) l
 
@@ -82,11 +80,10 @@ module _ {m : Model} {before : List ℕ} {done : List Line} {words depths : List
         rw (depths_push done l, one_more)
         (get_or_push (depths_of done) (line_depth (depths_of done) l) 0 (i + 1 - 1) (omega (arith, length_depths done)))
 
-    pub judged_more : JudgedTo m before (done ++ l ∷ []) (set words i w) (set depths i d) (record { set = w; depth = d })
+    pub judged_more : JudgedTo m before (done ++ l ∷ []) (set words i w) (depths ++ d ∷ []) (record { set = w; depth = d })
     judged_more = record {
       in_front = written ∙ rw (sets_push m done l, map_push (word (count m)) (sets_of m done) X, one_more, append_assoc, w_is);
       size = length-set words i w ∙ judged.size;
-      deep = rw (one_more, depths_push done l) (take_more_set depths i d (omega (arith, judged.room)) ∙ rw (depths_done, d_is));
-      room = length-set depths i d ∙ judged.room;
+      deep = rw (depths_push done l, judged.deep, d_is);
       told = ap₂ (λ s e. record { set = s; depth = e }) (w_is ∙ ap (word (count m)) (sym holds_last)) (d_is ∙ sym depth_last);
     }

@@ -9,6 +9,7 @@ use crate::fault::{JudgeFault, Verdict};
 use crate::format::{LINES, SentenceField};
 use crate::line::Line;
 use crate::sets::Sets;
+use arrayvec::ArrayVec;
 use fields::fault::{FileFault, Flaw};
 use fields::file::Fields;
 use model::source::Source;
@@ -57,17 +58,17 @@ fn evaluate<S: Source>(source: &S, bytes: &[u8], words: &mut [u64]) -> Result<Ve
         → (result ≡ Ok (verdict (S.meaning source.now) ls))
         × (words.new ≡ words_after (S.meaning source.now) (Ok ls) words.old) }
 {
-    let mut depths = [0; LINES];
+    let mut depths = ArrayVec::<u16, LINES>::new();
     let mut last = Verdict { set: 0, depth: 0 };
-    // Words and depths go by index, since each line is judged from those in front of its own.
+    // The words go by index, since each line is judged from those in front of its own.
     for (before, field) in Fields::of(SentenceField, bytes).enumerate() {
         let line = Line::read(&field?, before)?;
         last = Verdict {
             set: Sets::new(source, &words[0..before]).of_line(line),
-            depth: line.depth(&depths[0..before]),
+            depth: line.depth(depths.as_slice()),
         };
         words[before] = last.set;
-        depths[before] = last.depth;
+        depths.push(last.depth);
     }
     Ok(last)
 }

@@ -9,7 +9,7 @@ use Rattle.logic.specs.Format.{kind_tag}
 use Rattle.logic.specs.Lines.{meant}
 use Rattle.logic.specs.Words.{sets_in, word}
 use Rattle.logic.proofs.Files.{line_behind_few}
-use Rattle.logic.proofs.Judging.{depths_done, depths_low, judged_more, judged_none, line_told, words_low}
+use Rattle.logic.proofs.Judging.{depths_low, length_deep, judged_more, judged_none, line_told, words_low}
 use Rattle.logic.proofs.Progress.{read_more, read_none, read_room}
 use Rattle.logic.proofs.judge.evaluate.Goals as goal
 use Rattle.logic.proofs.judge.evaluate.Goals.{In_ok-line}
@@ -22,7 +22,7 @@ loop-before-init g c =
       [],
       sym (rw start c.enumerate-before-items.ensures.count),
       rw (start, c.enumerate-before-items.ensures.source, all.0, all.1) none,
-      judged_none (g.S.Source.meaning c.args.source.now) c.args.words.now,
+      rw c.new-depths.ensures (judged_none (g.S.Source.meaning c.args.source.now) c.args.words.now),
     )
 
 -- the line that is read has its place among the words and the depths
@@ -40,9 +40,6 @@ few g c =
 pub slice_bounds-new-end : goal.slice_bounds-new-end
 slice_bounds-new-end g c = omega (arith, room g c, c.loop-before.invariant.3.size)
 
-pub slice_bounds-depth-end : goal.slice_bounds-depth-end
-slice_bounds-depth-end g c = let l = few g (goal.at.slice_bounds-depth-end g c).In_ok-line in omega (arith, l)
-
 pub new-requires : goal.new-requires
 new-requires g c =
     let here = c.loop-before.invariant.1 ∙ sym c.in-Some.ensures.steps.1 in
@@ -51,13 +48,16 @@ new-requires g c =
 pub depth-requires : goal.depth-requires
 depth-requires g c =
     let here = c.loop-before.invariant.1 ∙ sym c.in-Some.ensures.steps.1 in
-    rw sub-zero (depths_low c.loop-before.invariant.3 c.in-Some.before here (few g (goal.at.depth-requires g c).In_ok-line))
+    rw c.as_slice.ensures.value (depths_low c.loop-before.invariant.3 c.in-Some.before here (few g (goal.at.depth-requires g c).In_ok-line))
 
 pub bounds-words-before : goal.bounds-words-before
 bounds-words-before g c = omega (arith, room g (goal.at.bounds-words-before g c).In_ok-line, c.loop-before.invariant.3.size)
 
-pub bounds-depths-before : goal.bounds-depths-before
-bounds-depths-before g c = few g (goal.at.bounds-depths-before g c).In_ok-line
+pub push-requires : goal.push-requires
+push-requires g c =
+    let l = few g (goal.at.push-requires g c).In_ok-line in
+    let n = length_deep c.loop-before.invariant.3 c.in-Some.before (c.loop-before.invariant.1 ∙ sym c.in-Some.ensures.steps.1) in
+    (omega arith, omega (arith, l, n))
 
 pub loop-before-preserved : goal.loop-before-preserved
 loop-before-preserved g c =
@@ -73,9 +73,9 @@ loop-before-preserved g c =
     c.of_line.ensures ∙ ap₂ (λ source ws. word (count (g.S.Source.meaning source)) (line_holds (g.S.Source.meaning source) (sets_in ws) line))
     c.new.ensures.0 c.new.ensures.1 ∙ rw sub-zero (line_told judged c.in-Some.before here (g.met.S.Source.obeys c.args.source.now) line) in
     let d_is : c.depth.result ≡ line_depth (depths_of done) line =
-    c.depth.ensures ∙ ap (λ ds. line_depth ds line) (rw sub-zero (depths_done judged c.in-Some.before here)) in (
+    c.depth.ensures ∙ ap (λ ds. line_depth ds line) (c.as_slice.ensures.value ∙ judged.deep) in (
       done ++ line ∷ [],
       omega (arith, length_push done line, here, steps.1, steps.2),
       rw taken.1 (read_more c.loop-before.invariant.2 c.in-Some.before here _ _ taken.2 line (rw taken.0 at c.in_ok-line.ensures)),
-      judged_more judged c.in-Some.before here line c.of_line.result c.depth.result w_is d_is (room g at) (few g at),
+      rw c.push.ensures.items (judged_more judged c.in-Some.before here line c.of_line.result c.depth.result w_is d_is (room g at)),
     )

@@ -9,4 +9,4 @@ abbrev pub invariant-loop-before : goal.invariant-loop-before
 invariant-loop-before g l =
     let left = l.before-iterator.iter in
     (done : List Line) × (length done ≡ l.before-iterator.count) × ReadTo l.bytes done left.place left.rest.now
-    × JudgedTo (g.S.Source.meaning l.source) l.initial.words done l.words l.depths l.last
+    × JudgedTo (g.S.Source.meaning l.source) l.initial.words done l.words l.depths.items l.last
