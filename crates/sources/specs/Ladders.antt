@@ -66,10 +66,10 @@ module _ (l : Ladder) where
   step_is : (s i : ℕ) → step_at (ladder_of l) s i ≡ cond (has l s i) (step s) no_step
   step_is s i = ap (λ row. get_or row i no_step) (ladder_steps s) ∙ get_or_one_or_none (fits l && nat_lt (s + 1) n) (step s) i
 
-  answer_is : (ask : Step → ℕ) (s i : ℕ) → ask (step_at (ladder_of l) s i) ≡ cond (has l s i) (ask (step s)) (ask no_step)
+  pub answer_is : (ask : Step → ℕ) (s i : ℕ) → ask (step_at (ladder_of l) s i) ≡ cond (has l s i) (ask (step s)) (ask no_step)
   answer_is ask s i = ap ask (step_is s i) ∙ ask_step_or_none ask (has l s i) (step s)
 
-  branch_answer_is : (ask : Branch → ℕ) (s i j : ℕ) → ask (branch_at (ladder_of l) s i j)
+  pub branch_answer_is : (ask : Branch → ℕ) (s i j : ℕ) → ask (branch_at (ladder_of l) s i j)
       ≡ cond (has l s i) (cond (j == 0) (ask (record { target = 0; weight = l.ok })) (cond (j == 1) (ask (record { target = s + 1; weight = l.miss })) (ask no_branch))) (ask no_branch)
   branch_answer_is ask s i j =
       answer_is (λ a. ask (slice_index_or a.branches j no_branch)) s i

@@ -14,7 +14,7 @@ mod reading;
 /// The most branches of a table.
 const BRANCHES: usize = 1024;
 
-/// A model in fixed arrays. It starts with one state and no steps; reading a model file fills it.
+/// A model in fixed memory. It starts with one state and no steps; reading a model file fills it.
 #[derive(Drop)]
 pub struct Table {
     /// The steps of each state.
