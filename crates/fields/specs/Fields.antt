@@ -1,6 +1,7 @@
 -- A field off the front of a file's bytes, and a whole file as the fields of it in turn. Assumes nothing.
 use Rattle.std.specs.Prelude.{◌≡◌, ℕ, zero, suc, ◌+◌, ◌*◌, ◌<◌, Bool, cond, List, [], ◌∷◌, length, take, drop, Ok, Err, Result, nat_le}
 use Rattle.fields.specs.declared.fault.FieldFault.{FieldFault}
+use Rattle.fields.specs.declared.field.Field.{Field as CodeField}
 use Rattle.fields.specs.declared.fault.FileFault.{FileFault}
 use Rattle.fields.specs.declared.fault.FileFault.TheVariants.{Field}
 use Rattle.fields.specs.declared.fault.Flaw.{Flaw}
@@ -26,6 +27,10 @@ field_of due allowed place (tag ∷ high ∷ low ∷ rest) =
     cond (due tag) (cond (allowed tag size) (cond (nat_le size (length rest))
     (Ok (record { tag = tag; value = take size rest; rest = drop size rest }))
     (fault place Short)) (fault place Length)) (fault place Tag)
+
+-- the same of the code's own field, by the tag of its kind
+abbrev pub as_read : {K : Type 0} → (K → ℕ) → CodeField K → Read
+as_read tag_of f = record { tag = tag_of f.kind; value = f.value.now; rest = f.rest.now }
 
 -- what comes after an Ok
 abbrev pub then : {T U E : Type 0} → Result T E → (T → Result U E) → Result U E

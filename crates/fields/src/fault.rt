@@ -53,6 +53,7 @@ impl Flaw {
     pub fn number(self) -> u8
         ensures answer { result ≡ flaw_number self }
     {
+        // A cast is the one form that reads a discriminant.
         self as u8
     }
 }

@@ -1,6 +1,6 @@
-// The fields of a file: how one is read, and how each follows the one before.
-ghost use Rattle.std.specs.Prelude.{◌≡◌, ℕ, ◌+◌, ◌^◌, ◌<◌, Bool, length, true, false, Ok, Err, IfOk, MatchOption, MatchResult};
-ghost use Rattle.fields.specs.Fields.{field_of};
+// How one field of a file is read.
+ghost use Rattle.std.specs.Prelude.{◌≡◌, ℕ, Bool, true, false, Ok, Err, IfOk, MatchOption, MatchResult};
+ghost use Rattle.fields.specs.Fields.{as_read, field_of};
 
 use crate::fault::{FieldFault, Flaw};
 
@@ -33,6 +33,7 @@ pub struct Field<'a, K> {
     pub place: usize,
 }
 
+// The bytes and their place are two parameters, as callers of this call have them; `file::Fields` keeps both together.
 /// The field at the front of `bytes`, which stand at `place` in their file. Its head, tag, length and value are looked at
 /// in this order, and the first flaw is the one that is answered.
 pub fn read_field<'a, R: Rule>(
@@ -42,7 +43,7 @@ pub fn read_field<'a, R: Rule>(
 ) -> Result<Field<'a, R::Kind>, FieldFault>
     ensures answer { MatchResult result
         (λ f. field_of (R.due rule.now) (R.allowed rule.now) place bytes.now
-        ≡ Ok (record { tag = R.tag_of f.kind; value = f.value.now; rest = f.rest.now }))
+        ≡ Ok (as_read R.tag_of f))
         (λ e. field_of (R.due rule.now) (R.allowed rule.now) place bytes.now ≡ Err e) }
     ensures place { IfOk result (λ f. f.place ≡ place) }
 {

@@ -1,7 +1,7 @@
 // A file as its fields, each right behind the one before.
 ghost use Rattle.std.specs.Prelude.{◌≡◌, ◌+◌, ◌^◌, ◌<◌, [], length, Err, MatchOption, MatchResult};
 ghost use Rattle.std.specs.Iterator.{at_most};
-ghost use Rattle.fields.specs.Fields.{Leads, field_of};
+ghost use Rattle.fields.specs.Fields.{Leads, as_read, field_of};
 
 use crate::fault::FieldFault;
 use crate::field::{Field, Rule, read_field};
@@ -32,7 +32,7 @@ impl<'a, R: Rule> Fields<'a, R> {
     pub fn due(&mut self) -> Result<Field<'a, R::Kind>, FieldFault>
         ensures answer { MatchResult result
             (λ f. Leads (R.due self.old.rule) (R.allowed self.old.rule) self.old.place self.old.rest.now
-            (record { tag = R.tag_of f.kind; value = f.value.now; rest = f.rest.now }) self.new.place)
+            (as_read R.tag_of f) self.new.place)
             (λ e. field_of (R.due self.old.rule) (R.allowed self.old.rule) self.old.place self.old.rest.now ≡ Err e) }
         ensures place { MatchResult result (λ f. (f.place ≡ self.old.place) × (self.new.rest.now ≡ f.rest.now)) (λ _. self.new.rest.now ≡ []) }
         ensures same { self.new.rule ≡ self.old.rule }
@@ -68,7 +68,7 @@ impl<'a, R: Rule + Drop> Iterator for Fields<'a, R> {
 
     ghost next_gives = { λ s r t. MatchOption r (s.rest.now ≡ []) (λ x. (0 < length s.rest.now) × (t.rule ≡ s.rule) × MatchResult x
         (λ f. (f.place ≡ s.place) × (t.rest.now ≡ f.rest.now) × Leads (R.due s.rule) (R.allowed s.rule) s.place s.rest.now
-        (record { tag = R.tag_of f.kind; value = f.value.now; rest = f.rest.now }) t.place)
+        (as_read R.tag_of f) t.place)
         (λ e. field_of (R.due s.rule) (R.allowed s.rule) s.place s.rest.now ≡ Err e)) };
 
     ghost remaining = { λ s. at_most (length s.rest.now) };

@@ -60,9 +60,7 @@ impl Packing for Numbers {
     ghost held = { numbers };
 
     fn split(bytes: &[u8]) -> Option<(u16, &[u8])> {
-        match bytes {
-            [high, low, rest @ ..] => Some((u16::from_be_bytes([*high, *low]), rest)),
-            _ => None,
-        }
+        let (number, rest) = bytes.split_first_chunk()?;
+        Some((u16::from_be_bytes(*number), rest))
     }
 }

@@ -1,4 +1,4 @@
--- Which sentence is judged. Assumes nothing.
+-- What the number of lines says of a file, and that a written one reads back. Assumes nothing.
 use Rattle.std.proofs.Common.{◌≡◌, ℕ, true, List, length, Ok, Err, Result, refl, ap, ◌∙◌}
 use Rattle.fields.specs.declared.fault.FileFault.{FileFault}
 use Rattle.theory.specs.Sentences.{Line, well_formed}

@@ -17,6 +17,7 @@ use model::source::Source;
 /// Judges the sentence of a file: answers where it holds and its depth, and leaves the set of line i in word i - 1; words
 /// behind those of the lines stay. Refuses, in this order, a void source, a file with a fault, and fewer words than lines;
 /// a refusal changes no word.
+#[tactic(auto, using(crate::proofs::Outcomes::written_read))]
 pub fn judge<S: Source>(source: &S, bytes: &[u8], words: &mut [u64]) -> Result<Verdict, JudgeFault>
     ensures answer { result ≡ answered (S.meaning source.now)
         (judged (S.meaning source.now) bytes.now (length words.old)) }
@@ -44,9 +45,9 @@ fn count_lines(bytes: &[u8]) -> Result<usize, FileFault>
         return Err(FileFault::from(Flaw::Short.at(0)));
     }
     let mut count = 0;
-    for field in Fields::of(SentenceField, bytes) {
-        Line::read(&field?, count)?;
-        count += 1;
+    for (before, field) in Fields::of(SentenceField, bytes).enumerate() {
+        Line::read(&field?, before)?;
+        count = before + 1;
     }
     Ok(count)
 }
@@ -60,7 +61,8 @@ fn evaluate<S: Source>(source: &S, bytes: &[u8], words: &mut [u64]) -> Result<Ve
 {
     let mut depths = ArrayVec::<u16, LINES>::new();
     let mut last = Verdict { set: 0, depth: 0 };
-    // The words go by index, since each line is judged from those in front of its own.
+    // The words go by index, since each line is judged from those in front of its own; to split them there (`split_at_mut`)
+    // would take an index too.
     for (before, field) in Fields::of(SentenceField, bytes).enumerate() {
         let line = Line::read(&field?, before)?;
         last = Verdict {

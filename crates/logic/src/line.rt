@@ -1,6 +1,5 @@
 // A line of a sentence over the bytes of its file: how it is read, and whether it may stand where it stands.
-ghost use Rattle.std.specs.Prelude.{◌≡◌, ◌+◌, ◌-◌, ◌*◌, ◌<◌, [], ◌∷◌, length, Ok, Err, MatchOption, MatchResult, slice_index_or};
-ghost use Rattle.std.specs.List.{list_all};
+ghost use Rattle.std.specs.Prelude.{◌≡◌, ◌-◌, Ok, Err, MatchResult, slice_index_or};
 ghost use Rattle.theory.specs.Sentences.{fits_after, one_of_first};
 ghost use Rattle.logic.specs.File.{line_behind, line_of, step_line};
 ghost use Rattle.logic.specs.Format.{kind_tag};
@@ -73,10 +72,7 @@ impl<'a> Line<'a> {
         ensures { meant result ≡ line_of (kind_tag kind) value.now }
     {
         match kind {
-            LineKind::Not => match Numbers::split(value) {
-                Some((line, _)) => Line::Not(line),
-                None => Line::Not(0),
-            },
+            LineKind::Not => Line::Not(Numbers::split(value).map_or(0, |(line, _)| line)),
             LineKind::All => Line::All(Values::of(value)),
             LineKind::Any => Line::Any(Values::of(value)),
             LineKind::Step => Line::step_from(value),

@@ -11,6 +11,7 @@ fn small() -> Ladder {
 }
 
 /// Sees a sentence refused, with its number and place, and the words as they were.
+// The tests of the model file have a function of this kind, for another call that has no words.
 pub(crate) fn refused_over<const N: usize>(
     rt: &impl Abort,
     sentence: &[u8],

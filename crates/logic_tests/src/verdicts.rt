@@ -12,7 +12,7 @@ const TWO_COINS: [u8; 26] = [
     0x01, 0, 1, 4, 0x02, 0, 8, 0, 1, 0, 0, 1, 1, 0, 1, 0x02, 0, 8, 2, 1, 2, 0, 1, 3, 0, 2,
 ];
 
-/// Judges a sentence in the two coins, over words that are all filled.
+/// Judges a sentence in the two coins, over some words.
 fn in_coins(rt: &impl Abort, sentence: &[u8], words: &mut [u64]) -> Result<Verdict, JudgeFault> {
     let mut coins = Table::new();
     assert!(rt; coins.read(&TWO_COINS).is_ok());

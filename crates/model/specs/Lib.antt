@@ -1,3 +1,3 @@
--- Words on lists, models and their laws, and what a question is answered. Assumes nothing.
+-- A word on lists, models and their laws, and what a question is answered. Assumes nothing.
 pub mod Lists
 pub mod Model

@@ -98,6 +98,7 @@ impl<A: Source, B: Source> Source for Union<A, B> {
         lawful_from_parts (union left right) (union_is_lawful left right
         (lawful_parts left (A.obeys x.left)) (lawful_parts right (B.obeys x.right))) };
 
+    // An `if` for each of three: a closure for what a union that is not void answers is no plainer.
     fn states(&self) -> usize {
         if self.is_void() {
             0

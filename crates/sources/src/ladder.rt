@@ -7,7 +7,7 @@ ghost use Rattle.sources.specs.Ladders.{ladder_is_lawful};
 use model::source::Source;
 use model::{ACTIONS, STATES};
 
-/// The largest total of a ladder's step.
+/// The largest total of a ladder's step; a file has a limit of its own, which is another rule.
 const TOTAL: u32 = 30_000;
 
 /// A ladder of states: each but the last has one step, with weight `ok` to state 0 and weight `miss` to the next state.

@@ -1,4 +1,4 @@
--- What a table's arrays say of a state, a step and a branch. Assumes nothing.
+-- That each step keeps to the table's branches, as a test and as what it says. Assumes nothing.
 use Rattle.std.proofs.Common.{◌≡◌, ℕ, ◌+◌, ◌≤◌, true, List, [], length}
 use Rattle.std.specs.List.{AllByRecursion as All}
 use Rattle.std.proofs.ByRecursion.{All-weaker}
@@ -7,9 +7,6 @@ use Rattle.model.specs.declared.Branch.{Branch}
 use Rattle.model.proofs.Tests.{all_true, each_true}
 use Rattle.table.specs.Arrays.{Row, placed}
 use Rattle.table.specs.declared.row.Entry.{Entry}
-
-abbrev pub no_entry : Entry
-no_entry = record { action = 0; first = 0; count = 0 }
 
 abbrev pub no_row : Row
 no_row = record { items = [] }

@@ -1,4 +1,4 @@
--- Lemmas on a table's arrays and on the reading of a file. Assumes nothing.
+-- Lemmas on a table's rows and branches, and on the reading of a file. Assumes nothing.
 mod Measures
 mod Arrays
 mod Tables

@@ -1,4 +1,4 @@
--- What one more step does to a table's arrays and to what they stand for. Assumes nothing.
+-- What one more step does to a table's rows and branches, and to what they stand for. Assumes nothing.
 use Rattle.std.proofs.Common.{◌≡◌, ℕ, zero, suc, ◌+◌, ◌<◌, ◌≤◌, max, true, List, [], ◌∷◌, ◌++◌, map, length, get_or, take, drop, set, sum_by, refl, ap, ◌∙◌, arith}
 use Rattle.std.proofs.Math.Seq.{drop-append_seam}
 use Rattle.std.specs.List.{AllByRecursion as All}

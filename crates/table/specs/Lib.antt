@@ -1,4 +1,4 @@
--- What a table's arrays stand for, and what a model file says. Assumes nothing.
+-- What a table's rows and branches stand for, and what a model file says. Assumes nothing.
 pub mod Arrays
 pub mod Format
 pub mod File

@@ -1,13 +1,11 @@
 // The branches of a step, as a field holds them: the target in one byte, the weight in two.
-ghost use Rattle.std.specs.Prelude.{◌≡◌, ◌+◌, ◌^◌, ◌<◌, ◌≤◌, ◌++◌, length};
-ghost use Rattle.model.specs.Model.{mass};
-ghost use Rattle.table.specs.File.{read_branches, sound_branches};
+ghost use Rattle.table.specs.File.{read_branches};
 
-use arrayvec::ArrayVec;
-use fields::values::{Packing, Values};
+use fields::values::Packing;
 use model::Branch;
 
 /// How branches lie in bytes.
+#[derive(Clone, Copy)]
 pub(crate) struct Branches;
 
 impl Packing for Branches {

@@ -21,10 +21,12 @@ impl Rule for ModelField {
     ghost tag_of = { model_tag };
 
     fn kind(&self, tag: u8) -> Option<ModelField> {
+        // A cast is the one form that reads a discriminant.
         (tag == *self as u8).then_some(*self)
     }
 
-    /// The states take one byte; a step takes two, and three for each of its 1 to 64 branches.
+    /// The states take one byte; a step takes two, and three for each of its 1 to 64 branches. A field that is due is of the
+    /// rule's own kind.
     fn allows(&self, _kind: ModelField, length: usize) -> bool {
         match self {
             ModelField::States => length == 1,

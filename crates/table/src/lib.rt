@@ -1,4 +1,4 @@
-// The table: a source over its own arrays, which a model file fills.
+// The table: a source in fixed memory of its own, which a model file fills.
 #![tactic(auto)]
 
 mod bytes;

@@ -1,7 +1,8 @@
 // A step as a field of a file gives it.
 ghost use Rattle.std.specs.Prelude.{◌≡◌, ◌+◌, ◌^◌, ◌<◌, ◌≤◌, ◌++◌, length};
 ghost use Rattle.model.specs.Model.{total};
-ghost use Rattle.table.specs.File.{read_branches, sound_branches, sound_numbers};
+ghost use Rattle.table.specs.Arrays.{fitting};
+ghost use Rattle.table.specs.File.{sound_branches, sound_numbers};
 ghost use Rattle.table.specs.NewSteps.{step_given};
 
 use crate::bytes::Branches;
@@ -25,14 +26,16 @@ impl NewStep<'_> {
         self.branches.len() / 3
     }
 
-    /// The sum of the weights.
-    pub(crate) fn total(&self) -> u32
-        requires { total (step_given self.now) < 2 ^ 32 }
-        ensures { result ≡ total (step_given self.now) }
+    /// The sum of the weights, if 32 bits hold it.
+    // `answers::checked_total` sums a slice: a contract over any iterator would have to say what an early end leaves of it.
+    pub(crate) fn total(&self) -> Option<u32>
+        ensures { result ≡ fitting (total (step_given self.now)) }
     {
-        Values::<Branches>::of(self.branches)
-            .map(|branch| branch.weight)
-            .sum()
+        let mut total = 0u32;
+        for branch in Values::<Branches>::of(self.branches) {
+            total = total.checked_add(branch.weight)?;
+        }
+        Some(total)
     }
 
     /// Whether the numbers lie in their ranges and order, where there are so many states.

@@ -1,4 +1,4 @@
-// The table's own arrays, and what holds of them from its first moment.
+// The table's own rows and branches, and what holds of them from its first moment.
 ghost use Rattle.std.specs.Prelude.{◌≡◌, true, length};
 ghost use Rattle.model.specs.Model.{lawful};
 ghost use Rattle.table.specs.Arrays.{branches_in, measured, placed, states_in, steps_in};

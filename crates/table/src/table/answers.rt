@@ -35,7 +35,7 @@ impl Table {
     }
 
     /// A step's branches; none where the state has no such step.
-    fn part(&self, state: usize, step: usize) -> &[Branch]
+    fn branches_of(&self, state: usize, step: usize) -> &[Branch]
         ensures { result.now ≡ (step_at (table_of self.now) state step).branches }
     {
         self.step(state, step).map_or(&[], |step| step.branches)
@@ -46,7 +46,7 @@ impl Table {
         ensures { MatchOption result (branch_at (table_of self.now) state step branch ≡ no_branch)
             (λ b. branch_at (table_of self.now) state step branch ≡ b) }
     {
-        self.part(state, step).get(branch).copied()
+        self.branches_of(state, step).get(branch).copied()
     }
 }
 
@@ -76,11 +76,11 @@ impl Source for Table {
     }
 
     fn total(&self, state: usize, step: usize) -> u32 {
-        checked_total(self.part(state, step)).unwrap_or(0)
+        checked_total(self.branches_of(state, step)).unwrap_or(0)
     }
 
     fn branches(&self, state: usize, step: usize) -> usize {
-        self.part(state, step).len()
+        self.branches_of(state, step).len()
     }
 
     fn target(&self, state: usize, step: usize, branch: usize) -> usize {

@@ -1,5 +1,5 @@
 // How a table is made, and how a step is added to it.
-ghost use Rattle.std.specs.Prelude.{◌≡◌, ◌+◌, ◌<◌, ◌≤◌, true, [], length, replicate, slice_index_or};
+ghost use Rattle.std.specs.Prelude.{◌≡◌, ◌+◌, ◌<◌, ◌≤◌, true, [], length, replicate};
 ghost use Rattle.model.specs.Model.{lawful_step, total as total_of};
 ghost use Rattle.table.specs.Arrays.{with_step};
 ghost use Rattle.table.specs.File.{has_room};
@@ -55,7 +55,7 @@ impl Table {
     {
         let first = self.branches.len();
         step.append(&mut self.branches);
-        // Both numbers are at most 1,024; `try_from` would add a case that never comes.
+        // Both numbers are at most 1,024, and kept in 16 bits for the memory; `try_from` would add a case that never comes.
         let entry = Entry {
             action: step.action,
             first: first as u16,

@@ -1,20 +1,20 @@
 // Reading a model file into a table.
-ghost use Rattle.std.specs.Prelude.{◌≡◌, ◌+◌, ◌^◌, ◌<◌, ◌≤◌, length, Ok, Err, MatchResult};
-ghost use Rattle.fields.specs.Fields.{in_turn, starts};
-ghost use Rattle.table.specs.File.{added, has_room, model_file, one_more, read_branches, sound_numbers, step_field};
+ghost use Rattle.std.specs.Prelude.{◌≡◌, ◌<◌, ◌≤◌, length, Ok, Err, MatchResult};
+ghost use Rattle.table.specs.File.{added, has_room, model_file};
 ghost use Rattle.table.specs.Meaning.{states_of, table_of};
 
 use crate::format::ModelField;
 use crate::new_step::NewStep;
 use crate::table::Table;
 use fields::fault::FileFault;
+use fields::field::Field;
 use fields::file::Fields;
 use model::STATES;
 
 /// The most steps of a file.
 const FILE_STEPS: usize = 256;
 
-/// The largest total of a step.
+/// The largest total of a step of a file; a ladder has a limit of its own, which is another rule.
 const TOTAL: u32 = 30_000;
 
 impl Table {
@@ -41,20 +41,20 @@ impl Table {
         }
         let mut table = Table::with_states(states);
         for field in fields.by(ModelField::Step) {
-            let field = field?;
-            table.add(field.value, field.place)?;
+            table.add(&field?)?;
         }
         Ok(table)
     }
 
     /// Adds the step that a field's value gives, as the last one of its state.
-    fn add(&mut self, value: &[u8], place: usize) -> Result<(), FileFault>
-        requires { 5 ≤ length value.now }
-        ensures { MatchResult result (λ _. added place (states_of self.old) value.now ≡ Ok (states_of self.new))
-            (λ e. added place (states_of self.old) value.now ≡ Err e) }
+    fn add(&mut self, field: &Field<ModelField>) -> Result<(), FileFault>
+        requires { 5 ≤ length field.now.value.now }
+        ensures { MatchResult result
+            (λ _. added field.now.place (states_of self.old) field.now.value.now ≡ Ok (states_of self.new))
+            (λ e. added field.now.place (states_of self.old) field.now.value.now ≡ Err e) }
     {
-        let [state, action, branches @ ..] = value else {
-            return Err(FileFault::Number(place));
+        let [state, action, branches @ ..] = field.value else {
+            return Err(FileFault::Number(field.place));
         };
         let step = NewStep {
             state: usize::from(*state),
@@ -62,14 +62,16 @@ impl Table {
             branches,
         };
         if !step.is_sound(self.rows.len()) {
-            return Err(FileFault::Number(place));
+            return Err(FileFault::Number(field.place));
         }
         if !self.has_room(step.state, step.count()) {
-            return Err(FileFault::Limit(place));
+            return Err(FileFault::Limit(field.place));
         }
-        let total = step.total();
+        let Some(total) = step.total() else {
+            return Err(FileFault::Limit(field.place));
+        };
         if total > TOTAL {
-            return Err(FileFault::Limit(place));
+            return Err(FileFault::Limit(field.place));
         }
         self.push(&step, total);
         Ok(())

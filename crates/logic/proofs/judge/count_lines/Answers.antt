@@ -10,7 +10,9 @@ pub returns-in_err-read : goal.returns-in_err-read
 returns-in_err-read c =
     let p = err_from_is_err_and c.from_residual-in_err-read.result c.from_residual-in_err-read.ensures.1 in
     let some : 0 < length c.args.bytes.now = omega (arith, eqb-false (length c.args.bytes.now) 0 (sym c.if-is_empty.ensures)) in
-    let taken = rw c.in_ok-field.was at c.in-Some.ensures.steps.2 in
+    let steps = c.in-Some.ensures.steps in
+    let taken = rw c.in_ok-field.was at steps.0.2 in
+    let here = c.loop-before.invariant.1 ∙ c.loop-before.invariant.2 ∙ sym steps.1 in
     let file = sentence_is_lines c.args.bytes.now some
-    ∙ read_refused c.loop-field.invariant.2 _ c.loop-field.invariant.1 _ _ taken.2 _ (rw taken.0 at c.in_err-read.ensures) in
+    ∙ read_refused c.loop-before.invariant.3 _ here _ _ taken.2 _ (rw taken.0 at c.in_err-read.ensures) in
     p.1 ∙ (ap Err p.2 ∙ sym (ap counted file))

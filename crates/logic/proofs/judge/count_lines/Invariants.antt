@@ -4,5 +4,7 @@ use Rattle.theory.specs.Sentences.{Line}
 use Rattle.logic.proofs.Progress.{ReadTo}
 use Rattle.logic.proofs.judge.count_lines.Given as goal
 
-abbrev pub invariant-loop-field : goal.invariant-loop-field
-invariant-loop-field l = (done : List Line) × (length done ≡ l.count) × ReadTo l.bytes done l.field-iterator.place l.field-iterator.rest.now
+abbrev pub invariant-loop-before : goal.invariant-loop-before
+invariant-loop-before l =
+    let left = l.before-iterator.iter in
+    (done : List Line) × (length done ≡ l.count) × (l.count ≡ l.before-iterator.count) × ReadTo l.bytes done left.place left.rest.now

@@ -4,18 +4,9 @@ use Rattle.model.specs.Model.{Model}
 use Rattle.logic.specs.File.{sentence_file}
 use Rattle.logic.specs.Judging.{verdict}
 use Rattle.logic.proofs.Judgement.{sound}
-use Rattle.logic.proofs.Outcomes.{counted_lines, written_read}
+use Rattle.logic.proofs.Outcomes.{counted_lines}
 use Rattle.logic.proofs.Progress.{lines_of_sentence, same_ok}
 use Rattle.logic.proofs.judge.judge.Goals as goal
-
-pub returns-then-states-eq0-clause-written : goal.returns-then-states-eq0-clause-written
-returns-then-states-eq0-clause-written g c = written_read c.args.bytes.now
-
-pub returns-in_err-lines-clause-written : goal.returns-in_err-lines-clause-written
-returns-in_err-lines-clause-written g c = written_read c.args.bytes.now
-
-pub returns-then-words-lines-clause-written : goal.returns-then-words-lines-clause-written
-returns-then-words-lines-clause-written g c = written_read c.args.bytes.now
 
 pub returns-clause-sound : goal.returns-clause-sound
 returns-clause-sound g c =
@@ -24,6 +15,3 @@ returns-clause-sound g c =
     let told = c.in_ok-evaluate.ensures lines.0 (lines_of_sentence c.args.bytes.now lines.0 lines.1) in
     let verdict_is : c.in_ok-evaluate.field-0 ≡ verdict m lines.0 = same_ok told.0 in
     (lines.0, lines.1, rw (told.1, verdict_is) (sound m c.args.bytes.now lines.0 c.args.words.now lines.1))
-
-pub returns-clause-written : goal.returns-clause-written
-returns-clause-written g c = written_read c.args.bytes.now

@@ -23,5 +23,4 @@ pub returns-in-All : goal.returns-in-All
 returns-in-All c =
     let told = all_from_yields_List (one_of_first c.args.before) c.all-in-All.new.self _ c.all-in-All.result c.all-in-All.ensures.ran
     (held_in_turn numbers _) (λ x b q k. search (rules, tests)) in
-    let same = told in
     grind (arith, and-true)
