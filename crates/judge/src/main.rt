@@ -14,7 +14,7 @@ use table::table::Table;
 fn list_verdict(rt: &impl Print, verdict: Verdict) -> io::Result<()> {
     let depth = verdict.depth;
     print!(rt; "depth {depth} states")?;
-    for state in (0..64u64).filter(|state| (verdict.set >> *state) & 1 == 1) {
+    for state in (0..64).filter(|state| verdict.holds_in(*state)) {
         print!(rt; " {state}")?;
     }
     println!(rt)

@@ -87,10 +87,13 @@ has_word (suc n) X s l =
           sym (has_low n s (word (suc n) X) under) ∙ ap (λ w. has w s) (low (cond (X n) 1 0) n (word_below n X)) ∙ has_word n X s under
     ]
 
+pub has_above : (w s : ℕ) → w < 2 ^ s → has w s ≡ false
+has_above w s l = ap (λ x. eqb (x % 2) 1) (div-eq_of_lt l)
+
 pub has_none : (n : ℕ) (X : StateSet) (s : ℕ) → n ≤ s → has (word n X) s ≡ false
 has_none n X s l =
     let under : word n X < 2 ^ s = omega (arith, word_below n X, pow_mono l) in
-    ap (λ x. eqb (x % 2) 1) (div-eq_of_lt under)
+    has_above (word n X) s under
 
 -- one more state, which the set has
 pub or_bit : (n : ℕ) (X : StateSet) → true ≡ X n → bit_or (word n X) (2 ^ n) ≡ word (n + 1) X

@@ -1,8 +1,10 @@
 // What the judge answers, and why it may refuse.
 ghost use Rattle.std.specs.Prelude.{◌≡◌};
 ghost use Rattle.logic.specs.Judging.{judge_number, judge_place};
+ghost use Rattle.logic.specs.Words.{has};
 ghost use Rattle.logic.specs.declared.fault.JudgeFault.TheVariants.{File};
 
+use crate::sets::contains;
 use fields::fault::FileFault;
 use std::fmt;
 
@@ -11,6 +13,15 @@ use std::fmt;
 pub struct Verdict {
     pub set: u64,
     pub depth: u16,
+}
+
+impl Verdict {
+    /// Whether the sentence holds in a state.
+    pub fn holds_in(self, state: usize) -> bool
+        ensures answer { result ≡ has self.set state }
+    {
+        state < 64 && contains(self.set, state)
+    }
 }
 
 /// Why a sentence is not judged.

@@ -14,7 +14,7 @@ use model::source::Source;
 use theory::Part;
 
 /// Whether a set has a state.
-fn contains(set: u64, state: usize) -> bool
+pub(crate) fn contains(set: u64, state: usize) -> bool
     requires { state < 64 }
     ensures { result ≡ has set state }
 {
