@@ -1,8 +1,50 @@
--- Tests and functions that agree on the elements of a list, and sets on the targets of a step; what holds of all elements. Assumes nothing.
-use Rattle.std.proofs.Common.{◌≡◌, Bool, List, [], ◌∷◌, map, filter, refl, ap}
+-- What a test of every element, or of some, says of the elements, and tests and functions that agree on them. Assumes nothing.
+use Rattle.std.proofs.Common.{◌≡◌, Bool, true, false, cond, ◌&&◌, ◌||◌, List, [], ◌∷◌, map, filter, sym, refl, ap, inl, inr}
 use Rattle.std.specs.List.{AllByRecursion as All, list_all, list_any}
+use Rattle.std.proofs.lemmas.Bool.{and_cases, and_left, and_right, false≢true, or_cases, or_from, or_left, or_parts, or_right, true≢false}
 use Rattle.model.specs.Model.{Step, mass}
+use Rattle.theory.specs.Lists.{AnyByRecursion as Any}
 use Rattle.theory.specs.Sentences.{StateSet, share}
+
+pub same_bool : (x y : Bool) → (x ≡ true → y ≡ true) → (y ≡ true → x ≡ true) → x ≡ y
+same_bool true y f g = sym (f refl)
+same_bool false true f g = g refl
+same_bool false false f g = refl
+
+module _ {X : Type 0} (p : X → Bool) where
+  pub any_true : (xs : List X) → Any (λ x. p x ≡ true) xs → list_any p xs ≡ true
+  any_true [] h = absurd h
+  any_true (x ∷ xs) (inl e) = or_left (p x) (list_any p xs) e
+  any_true (x ∷ xs) (inr h) = or_right (p x) (list_any p xs) (any_true xs h)
+
+  pub some_true : (xs : List X) → list_any p xs ≡ true → Any (λ x. p x ≡ true) xs
+  some_true [] h = absurd (false≢true h)
+  some_true (x ∷ xs) h = elim (or_cases (p x) (list_any p xs) h) [ inl e ↦ inl e | inr e ↦ inr (some_true xs e) ]
+
+  pub all_false : (xs : List X) → Any (λ x. p x ≡ false) xs → list_all p xs ≡ false
+  all_false [] h = absurd h
+  all_false (x ∷ xs) (inl e) = and_left (p x) (list_all p xs) e
+  all_false (x ∷ xs) (inr h) = and_right (p x) (list_all p xs) (all_false xs h)
+
+  pub some_false : (xs : List X) → list_all p xs ≡ false → Any (λ x. p x ≡ false) xs
+  some_false [] h = absurd (true≢false h)
+  some_false (x ∷ xs) h = elim (and_cases (p x) (list_all p xs) h) [ inl e ↦ inl e | inr e ↦ inr (some_false xs e) ]
+
+  pub any_false : (xs : List X) → All (λ x. p x ≡ false) xs → list_any p xs ≡ false
+  any_false [] h = refl
+  any_false (x ∷ xs) h = or_from (p x) (list_any p xs) h.0 (any_false xs h.1)
+
+  pub each_false : (xs : List X) → list_any p xs ≡ false → All (λ x. p x ≡ false) xs
+  each_false [] h = tt
+  each_false (x ∷ xs) h = let e = or_parts (p x) (list_any p xs) h in (e.0, each_false xs e.1)
+
+  pub any_filter : (g : X → Bool) (xs : List X) → list_any g (filter p xs) ≡ list_any (λ x. p x && g x) xs
+  any_filter g [] = refl
+  any_filter g (x ∷ xs) =
+      elim (p x) as (λ b. list_any g (cond b (x ∷ filter p xs) (filter p xs)) ≡ (b && g x || list_any (λ x. p x && g x) xs)) [
+        | true ↦ ap (λ n. g x || n) (any_filter g xs)
+        | false ↦ any_filter g xs
+      ]
 
 module _ {X : Type 0} (p q : X → Bool) where
   pub all_same : (xs : List X) → All (λ x. p x ≡ q x) xs → list_all p xs ≡ list_all q xs
@@ -13,7 +55,7 @@ module _ {X : Type 0} (p q : X → Bool) where
   any_same [] h = refl
   any_same (x ∷ xs) h = rw (h.0, any_same xs h.1)
 
-  filter_same : (xs : List X) → All (λ x. p x ≡ q x) xs → filter p xs ≡ filter q xs
+  pub filter_same : (xs : List X) → All (λ x. p x ≡ q x) xs → filter p xs ≡ filter q xs
   filter_same [] h = refl
   filter_same (x ∷ xs) h = rw (h.0, filter_same xs h.1)
 
@@ -23,11 +65,3 @@ share_same X Y a h = ap mass (filter_same (λ b. X b.target) (λ b. Y b.target) 
 pub map_same : {X Y : Type 0} (f g : X → Y) (xs : List X) → All (λ x. f x ≡ g x) xs → map f xs ≡ map g xs
 map_same f g [] h = refl
 map_same f g (x ∷ xs) h = rw (h.0, map_same f g xs h.1)
-
-pub all_unmap : {X Y : Type 0} (P : X → Type 0) (f : Y → X) (ys : List Y) → All P (map f ys) → All (λ y. P (f y)) ys
-all_unmap P f [] h = tt
-all_unmap P f (y ∷ ys) h = (h.0, all_unmap P f ys h.1)
-
-pub all_always : {X : Type 0} (P : X → Type 0) → ((x : X) → P x) → (xs : List X) → All P xs
-all_always P f [] = tt
-all_always P f (x ∷ xs) = (f x, all_always P f xs)

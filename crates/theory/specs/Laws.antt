@@ -1,6 +1,9 @@
--- What is proved of sentences. Assumes nothing.
-use Rattle.std.specs.Prelude.{◌≡◌, ℕ, ◌+◌, ◌<◌, true, List, [], length, slice_index_or}
-use Rattle.model.specs.Model.{Model}
+-- What is proved of sentences and of matching. Assumes nothing.
+use Rattle.std.specs.Prelude.{◌≡◌, ℕ, ◌+◌, ◌<◌, ◌≤◌, Bool, true, List, [], length, filter, slice_index_or}
+use Rattle.std.specs.List.{AllByRecursion}
+use Rattle.model.specs.Model.{Model, Step, rising}
+use Rattle.model.specs.declared.Branch.{Branch}
+use Rattle.theory.specs.Matching.{Holds, Matches, Relation, cut, has_target, matches, most, surplus}
 use Rattle.theory.specs.Sentences.{all_of, Line, depth, depth_at, depths_of, holds, line_depth, line_holds, set_of, sets_of, well_formed}
 
 -- In a well-formed sentence each line holds where its kind says, over the sets of the lines that it names, and is as deep
@@ -14,3 +17,20 @@ LinesMean =
 -- A sentence of depth 0 tells no two states apart.
 abbrev pub DepthZeroConstant : Type 0
 DepthZeroConstant = (m : Model) (ls : List Line) → depth ls ≡ 0 → (s t : ℕ) → holds m ls s ≡ holds m ls t
+
+-- The test for a match passes exactly where there is a weight function.
+abbrev pub MatchExact : Type 0
+MatchExact =
+    (R : Relation) (a b : Step) → rising 0 a.branches ≡ true → rising 0 b.branches ≡ true
+    → (matches R a b ≡ true → Matches (Holds R) a b) × (Matches (Holds R) a b → matches R a b ≡ true)
+
+-- The cut is of greatest surplus. Every set of branches of greatest surplus has all of its targets, so it is at least as
+-- large, and it is the cut where it is as large: there is only one smallest set of greatest surplus.
+abbrev pub CutExact : Type 0
+CutExact =
+    (R : Relation) (a b : Step) → rising 0 a.branches ≡ true
+    → (surplus R a b (cut R a b) ≡ most R a b)
+    × ((keep : Branch → Bool) → surplus R a b (filter keep a.branches) ≡ most R a b
+    → AllByRecursion (λ u. has_target u.target (cut R a b) ≡ true → keep u ≡ true) a.branches
+    × (length (cut R a b) ≤ length (filter keep a.branches))
+    × (length (filter keep a.branches) ≡ length (cut R a b) → filter keep a.branches ≡ cut R a b))

@@ -1,4 +1,6 @@
 -- Sentences, where they hold and how deep they are; when steps match; and the laws that are proved of both. Assumes nothing.
+pub mod Lists
 pub mod Sentences
 pub mod Matching
 pub mod Laws
+pub mod Cases

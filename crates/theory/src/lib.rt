@@ -1,7 +1,9 @@
-// Sentences about the states of a model, and what is proved of them whatever the model and however large the sentence.
+// Sentences about the states of a model, when one step matches another, and what is proved of both whatever the model and
+// however large the sentence.
 #![tactic(auto)]
 
-ghost use Rattle.theory.specs.Laws.{DepthZeroConstant, LinesMean};
+ghost use Rattle.theory.specs.Cases.{MatchingCases};
+ghost use Rattle.theory.specs.Laws.{CutExact, DepthZeroConstant, LinesMean, MatchExact};
 
 /// A part of a step-line: a line, and the least share, k of m, of a step's weight that must lead to where that line holds.
 /// The definitions take one with any numbers, not only such as fit these types.
@@ -20,4 +22,19 @@ pub fn lines_mean()
 /// A sentence of depth 0 holds everywhere or nowhere.
 pub fn depth_zero_is_constant()
     ensures { DepthZeroConstant }
+{}
+
+/// One step matches another exactly where no set of its targets weighs more than what it stands to.
+pub fn match_is_exact()
+    ensures { MatchExact }
+{}
+
+/// Where two steps do not match, one set of targets of greatest surplus lies in all the others: the cut.
+pub fn cut_is_exact()
+    ensures { CutExact }
+{}
+
+/// Two steps that match under three pairs of their targets, and under two of the three do not, with the cut that tells.
+pub fn matching_cases()
+    ensures { MatchingCases }
 {}

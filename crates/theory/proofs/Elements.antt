@@ -1,0 +1,110 @@
+-- What holds of all elements of a list, or of some. Assumes nothing.
+use Rattle.std.proofs.Common.{◌≡◌, ℕ, zero, suc, ◌<◌, Bool, true, ◌⊎◌, List, [], ◌∷◌, ◌++◌, map, length, get_or, filter, inl, inr, arith, flat_map}
+use mathlib.Core.List.{reverse_aux}
+use Rattle.std.specs.List.{AllByRecursion as All}
+use Rattle.std.proofs.ByRecursion.{All-append, All-weaker}
+use Rattle.std.proofs.lemmas.Bool.{both_ways, cases_Bool}
+use Rattle.theory.specs.Lists.{AnyByRecursion as Any}
+
+module _ {X : Type 0} (P : X → Type 0) where
+  pub all_always : ((x : X) → P x) → (xs : List X) → All P xs
+  all_always f [] = tt
+  all_always f (x ∷ xs) = (f x, all_always f xs)
+
+  pub all_split : (xs ys : List X) → All P (xs ++ ys) → All P xs × All P ys
+  all_split [] ys h = (tt, h)
+  all_split (x ∷ xs) ys h = let r = all_split xs ys h.1 in ((h.0, r.0), r.1)
+
+  pub all_unmap : {Y : Type 0} (f : Y → X) (ys : List Y) → All P (map f ys) → All (λ y. P (f y)) ys
+  all_unmap f [] h = tt
+  all_unmap f (y ∷ ys) h = (h.0, all_unmap f ys h.1)
+
+  pub all_flat_map : {Y : Type 0} (f : Y → List X) (ys : List Y) → All (λ y. All P (f y)) ys → All P (flat_map f ys)
+  all_flat_map f [] h = tt
+  all_flat_map f (y ∷ ys) h = All-append P (f y) (flat_map f ys) h.0 (all_flat_map f ys h.1)
+
+  pub all_flat_map_parts : {Y : Type 0} (f : Y → List X) (ys : List Y) → All P (flat_map f ys) → All (λ y. All P (f y)) ys
+  all_flat_map_parts f [] h = tt
+  all_flat_map_parts f (y ∷ ys) h = let r = all_split (f y) (flat_map f ys) h in (r.0, all_flat_map_parts f ys r.1)
+
+  -- what holds of all that a filter keeps holds of each that passes
+  pub all_unfiltered : (p : X → Bool) (xs : List X) → All P (filter p xs) → All (λ x. p x ≡ true → P x) xs
+  all_unfiltered p [] h = tt
+  all_unfiltered p (x ∷ xs) h =
+      elim (cases_Bool (p x)) [
+        | inl e ↦ let k : P x × All P (filter p xs) = rw e at h in (λ _. k.0, all_unfiltered p xs k.1)
+        | inr e ↦ let k : All P (filter p xs) = rw e at h in (λ e'. absurd (both_ways (p x) e e'), all_unfiltered p xs k)
+      ]
+
+  pub all_reverse : (xs done : List X) → All P xs → All P done → All P (reverse_aux xs done)
+  all_reverse [] done h k = k
+  all_reverse (x ∷ xs) done h k = all_reverse xs (x ∷ done) h.1 (h.0, k)
+
+  pub some_get_or : (d : X) (xs : List X) (k : ℕ) → k < length xs → P (get_or xs k d) → Any P xs
+  some_get_or d [] k h e = absurd (omega arith)
+  some_get_or d (x ∷ xs) zero h e = inl e
+  some_get_or d (x ∷ xs) (suc k) h e = inr (some_get_or d xs k (omega arith) e)
+
+  pub some_left : (xs ys : List X) → Any P xs → Any P (xs ++ ys)
+  some_left [] ys h = absurd h
+  some_left (x ∷ xs) ys (inl e) = inl e
+  some_left (x ∷ xs) ys (inr h) = inr (some_left xs ys h)
+
+  pub some_right : (xs ys : List X) → Any P ys → Any P (xs ++ ys)
+  some_right [] ys h = h
+  some_right (x ∷ xs) ys h = inr (some_right xs ys h)
+
+  pub some_map : {Y : Type 0} (f : Y → X) (ys : List Y) → Any (λ y. P (f y)) ys → Any P (map f ys)
+  some_map f [] h = absurd h
+  some_map f (y ∷ ys) (inl e) = inl e
+  some_map f (y ∷ ys) (inr h) = inr (some_map f ys h)
+
+  pub some_flat_map : {Y : Type 0} (f : Y → List X) (ys : List Y) → Any (λ y. Any P (f y)) ys → Any P (flat_map f ys)
+  some_flat_map f [] h = absurd h
+  some_flat_map f (y ∷ ys) (inl e) = some_left (f y) (flat_map f ys) e
+  some_flat_map f (y ∷ ys) (inr h) = some_right (f y) (flat_map f ys) (some_flat_map f ys h)
+
+  pub some_filter : (p : X → Bool) (xs : List X) → Any (λ x. P x × (p x ≡ true)) xs → Any P (filter p xs)
+  some_filter p [] h = absurd h
+  some_filter p (x ∷ xs) (inl e) = rw e.1 (inl e.0)
+  some_filter p (x ∷ xs) (inr h) =
+      let ih : Any P (filter p xs) = some_filter p xs h in
+      elim (cases_Bool (p x)) [ inl e ↦ rw e (inr ih) | inr e ↦ rw e ih ]
+
+  pub some_reverse : (xs done : List X) → Any P xs ⊎ Any P done → Any P (reverse_aux xs done)
+  some_reverse [] done (inl h) = absurd h
+  some_reverse [] done (inr h) = h
+  some_reverse (x ∷ xs) done (inl (inl e)) = some_reverse xs (x ∷ done) (inr (inl e))
+  some_reverse (x ∷ xs) done (inl (inr h)) = some_reverse xs (x ∷ done) (inl h)
+  some_reverse (x ∷ xs) done (inr h) = some_reverse xs (x ∷ done) (inr (inr h))
+
+module _ {X : Type 0} (P Q : X → Type 0) where
+  pub some_weaker : ((x : X) → P x → Q x) → (xs : List X) → Any P xs → Any Q xs
+  some_weaker f [] h = absurd h
+  some_weaker f (x ∷ xs) (inl e) = inl (f x e)
+  some_weaker f (x ∷ xs) (inr h) = inr (some_weaker f xs h)
+
+  -- an element of which Q holds, with what holds of all
+  pub some_of_all : (xs : List X) → All P xs → Any Q xs → (x : X) × P x × Q x
+  some_of_all [] h k = absurd k
+  some_of_all (x ∷ xs) h (inl e) = (x, h.0, e)
+  some_of_all (x ∷ xs) h (inr k) = some_of_all xs h.1 k
+
+module _ {X : Type 0} (P Q S : X → Type 0) (f : (x : X) → P x → Q x → S x) where
+  pub all_both : (xs : List X) → All P xs → All Q xs → All S xs
+  all_both [] h k = tt
+  all_both (x ∷ xs) h k = (f x h.0 k.0, all_both xs h.1 k.1)
+
+  pub some_both : (xs : List X) → All P xs → Any Q xs → Any S xs
+  some_both [] h k = absurd k
+  some_both (x ∷ xs) h (inl e) = inl (f x h.0 e)
+  some_both (x ∷ xs) h (inr k) = inr (some_both xs h.1 k)
+
+-- each element stands to itself
+pub all_self : {X : Type 0} (R : X → X → Type 0) → ((x : X) → R x x) → (xs : List X) → All (λ x. Any (R x) xs) xs
+all_self R f [] = tt
+all_self R f (x ∷ xs) = (inl (f x), All-weaker _ _ (λ y h. inr h) xs (all_self R f xs))
+
+pub all_swap : {A X : Type 0} (R : A → X → Type 0) (xs : List X) → ((a : A) → All (R a) xs) → All (λ x. (a : A) → R a x) xs
+all_swap R [] h = tt
+all_swap R (x ∷ xs) h = (λ a. (h a).0, all_swap R xs (λ a. (h a).1))
