@@ -1,6 +1,7 @@
--- The proofs in their order: lists, sentences, matching. Each builds on those above it. Assumes nothing.
+-- The proofs in their order: lists, sentences, matching, stages. Each builds on those above it. Assumes nothing.
 pub mod Tests
 pub mod Elements
+pub mod Counting
 pub mod Texts
 pub mod Meanings
 pub mod Induction
@@ -11,3 +12,11 @@ pub mod Hall
 pub mod Surplus
 pub mod Weights
 pub mod Cuts
+pub mod Lawful
+pub mod Dominance
+pub mod Tables
+pub mod Meeting
+pub mod Stages
+pub mod Levels
+pub mod Settled
+pub mod Rounds

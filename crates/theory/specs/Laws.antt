@@ -1,9 +1,10 @@
--- What is proved of sentences and of matching. Assumes nothing.
-use Rattle.std.specs.Prelude.{◌≡◌, ℕ, ◌+◌, ◌<◌, ◌≤◌, Bool, true, List, [], length, filter, slice_index_or}
+-- What is proved of sentences, of matching and of the rounds of a comparison. Assumes nothing.
+use Rattle.std.specs.Prelude.{◌≡◌, ℕ, suc, ◌+◌, ◌<◌, ◌≤◌, Bool, true, List, [], length, filter, slice_index_or}
 use Rattle.std.specs.List.{AllByRecursion}
-use Rattle.model.specs.Model.{Model, Step, rising}
+use Rattle.model.specs.Model.{Model, Step, count, lawful, rising}
 use Rattle.model.specs.declared.Branch.{Branch}
 use Rattle.theory.specs.Matching.{Holds, Matches, Relation, cut, has_target, matches, most, surplus}
+use Rattle.theory.specs.Stages.{Bisimulation, before, levels, settled, stage, unparted}
 use Rattle.theory.specs.Sentences.{all_of, Line, depth, depth_at, depths_of, holds, line_depth, line_holds, set_of, sets_of, well_formed}
 
 -- In a well-formed sentence each line holds where its kind says, over the sets of the lines that it names, and is as deep
@@ -34,3 +35,41 @@ CutExact =
     → AllByRecursion (λ u. has_target u.target (cut R a b) ≡ true → keep u ≡ true) a.branches
     × (length (cut R a b) ≤ length (filter keep a.branches))
     × (length (filter keep a.branches) ≡ length (cut R a b) → filter keep a.branches ≡ cut R a b))
+
+-- Each stage is an equivalence on the states, inside those before it.
+abbrev pub StagesExact : Type 0
+StagesExact =
+    (m : Model) → lawful m ≡ true → (k : ℕ)
+    → ((s t : ℕ) → stage m k s t ≡ true → (s < count m) × (t < count m))
+    × ((s : ℕ) → s < count m → stage m k s s ≡ true)
+    × ((s t : ℕ) → stage m k s t ≡ true → stage m k t s ≡ true)
+    × ((s t u : ℕ) → stage m k s t ≡ true → stage m k t u ≡ true → stage m k s u ≡ true)
+    × ((j s t : ℕ) → j ≤ k → stage m k s t ≡ true → stage m j s t ≡ true)
+
+-- The levels of r rounds hold the stages up to r, and a level once set stays.
+abbrev pub LevelsExact : Type 0
+LevelsExact =
+    (m : Model) → lawful m ≡ true → (r s t : ℕ) → s < count m → t < count m
+    → (unparted (levels m r) s t ≡ stage m r s t)
+    × ((k : ℕ) → k ≤ r → before (levels m r) (suc k) s t ≡ stage m k s t)
+    × (levels m r s t ≤ r)
+    × ((q d : ℕ) → r ≤ q → levels m r s t ≡ suc d → levels m q s t ≡ suc d)
+
+-- Once settled, the unparted pairs are those that some bisimulation relates. A contract names no statement over all
+-- relations into Type 0, so this one is over the relations that can be asked.
+abbrev pub SettledExact : Type 0
+SettledExact =
+    (m : Model) → lawful m ≡ true → (r s t : ℕ) → s < count m → t < count m → settled m r (levels m r) ≡ true
+    → (levels m r s t ≡ 0 → (R : Relation) × Bisimulation m (Holds R) × Holds R s t)
+    × ((R : Relation) → Bisimulation m (Holds R) → Holds R s t → levels m r s t ≡ 0)
+
+-- The same over all relations, which proofs/Settled.antt proves and no contract names.
+abbrev pub SettledExactWide : Type 1
+SettledExactWide =
+    (m : Model) → lawful m ≡ true → (r s t : ℕ) → s < count m → t < count m → settled m r (levels m r) ≡ true
+    → (levels m r s t ≡ 0 → (R : ℕ → ℕ → Type 0) × Bisimulation m R × R s t)
+    × ((R : ℕ → ℕ → Type 0) → Bisimulation m R → R s t → levels m r s t ≡ 0)
+
+-- After at least as many rounds as states, the last round parted nothing.
+abbrev pub RoundsBounded : Type 0
+RoundsBounded = (m : Model) → lawful m ≡ true → 0 < count m → (r : ℕ) → count m ≤ r → settled m r (levels m r) ≡ true

@@ -3,7 +3,7 @@
 #![tactic(auto)]
 
 ghost use Rattle.theory.specs.Cases.{MatchingCases};
-ghost use Rattle.theory.specs.Laws.{CutExact, DepthZeroConstant, LinesMean, MatchExact};
+ghost use Rattle.theory.specs.Laws.{CutExact, DepthZeroConstant, LevelsExact, LinesMean, MatchExact, RoundsBounded, SettledExact, StagesExact};
 
 /// A part of a step-line: a line, and the least share, k of m, of a step's weight that must lead to where that line holds.
 /// The definitions take one with any numbers, not only such as fit these types.
@@ -37,4 +37,24 @@ pub fn cut_is_exact()
 /// Two steps that match under three pairs of their targets, and under two of the three do not, with the cut that tells.
 pub fn matching_cases()
     ensures { MatchingCases }
+{}
+
+/// Each stage of a lawful model is an equivalence on its states, inside the stages before it.
+pub fn stages_are_exact()
+    ensures { StagesExact }
+{}
+
+/// The levels, which say for each pair of states the round that parted it, hold the stages.
+pub fn levels_are_exact()
+    ensures { LevelsExact }
+{}
+
+/// After a round that parts nothing, the pairs that no round parted are those that a bisimulation relates.
+pub fn settled_is_exact()
+    ensures { SettledExact }
+{}
+
+/// As many rounds as there are states are enough.
+pub fn rounds_are_bounded()
+    ensures { RoundsBounded }
 {}
