@@ -1,9 +1,11 @@
 -- What holds of all elements of a list, or of some. Assumes nothing.
-use Rattle.std.proofs.Common.{◌≡◌, ℕ, zero, suc, ◌<◌, Bool, true, ◌⊎◌, List, [], ◌∷◌, ◌++◌, map, length, get_or, filter, inl, inr, arith, flat_map}
+use Rattle.std.proofs.Common.{false, ◌≤◌, ◌≡◌, ℕ, zero, suc, ◌<◌, Bool, true, ◌⊎◌, List, [], ◌∷◌, ◌++◌, map, length, get_or, filter, inl, inr, arith, flat_map}
 use mathlib.Core.List.{reverse_aux}
-use Rattle.std.specs.List.{AllByRecursion as All}
+use Rattle.std.specs.List.{AllByRecursion as All, position_or_len}
 use Rattle.std.proofs.ByRecursion.{All-append, All-weaker}
-use Rattle.std.proofs.lemmas.Bool.{both_ways, cases_Bool}
+use Rattle.std.proofs.lemmas.Bool.{both_ways, cases_Bool, cases_lt}
+use Rattle.std.proofs.lemmas.List.Elements.{recursion_from_All}
+use Rattle.std.proofs.lemmas.List.Sums.{fails_before_first, passes_at_first}
 use Rattle.theory.specs.Lists.{AnyByRecursion as Any}
 
 module _ {X : Type 0} (P : X → Type 0) where
@@ -108,3 +110,13 @@ all_self R f (x ∷ xs) = (inl (f x), All-weaker _ _ (λ y h. inr h) xs (all_sel
 pub all_swap : {A X : Type 0} (R : A → X → Type 0) (xs : List X) → ((a : A) → All (R a) xs) → All (λ x. (a : A) → R a x) xs
 all_swap R [] h = tt
 all_swap R (x ∷ xs) h = (λ a. (h a).0, all_swap R xs (λ a. (h a).1))
+
+-- the first that passes stands at its place, or none passes
+pub first_cases : {X : Type 0} (p : X → Bool) (d : X) (xs : List X)
+    → ((position_or_len p xs < length xs) × (p (get_or xs (position_or_len p xs) d) ≡ true))
+    ⊎ ((length xs ≤ position_or_len p xs) × All (λ x. p x ≡ false) xs)
+first_cases p d xs =
+    elim (cases_lt (position_or_len p xs) (length xs)) [
+      | inl here ↦ inl (here, passes_at_first p xs d here)
+      | inr none ↦ inr (none, recursion_from_All _ xs (λ k d l. fails_before_first p xs k d (omega arith)))
+    ]

@@ -1,4 +1,4 @@
--- The proofs in their order: lists, sentences, matching, stages. Each builds on those above it. Assumes nothing.
+-- The proofs in their order: lists, sentences, matching, stages, the sentence that tells. Each builds on those above it. Assumes nothing.
 pub mod Tests
 pub mod Elements
 pub mod Counting
@@ -20,3 +20,12 @@ pub mod Stages
 pub mod Levels
 pub mod Settled
 pub mod Rounds
+pub mod Agreement
+pub mod Saying
+pub mod Lines
+pub mod Pairs
+pub mod Movers
+pub mod Rivals
+pub mod Places
+pub mod Needed
+pub mod Telling

@@ -1,8 +1,9 @@
 -- What is proved of sentences, of matching and of the rounds of a comparison. Assumes nothing.
-use Rattle.std.specs.Prelude.{◌≡◌, ℕ, suc, ◌+◌, ◌<◌, ◌≤◌, Bool, true, List, [], length, filter, slice_index_or}
+use Rattle.std.specs.Prelude.{◌≡◌, ℕ, suc, ◌⊎◌, false, ◌+◌, ◌<◌, ◌≤◌, Bool, true, List, [], length, filter, slice_index_or}
 use Rattle.std.specs.List.{AllByRecursion}
 use Rattle.model.specs.Model.{Model, Step, count, lawful, rising}
 use Rattle.model.specs.declared.Branch.{Branch}
+use Rattle.theory.specs.Telling.{sentence}
 use Rattle.theory.specs.Matching.{Holds, Matches, Relation, cut, has_target, matches, most, surplus}
 use Rattle.theory.specs.Stages.{Bisimulation, before, levels, settled, stage, unparted}
 use Rattle.theory.specs.Sentences.{all_of, Line, depth, depth_at, depths_of, holds, line_depth, line_holds, set_of, sets_of, well_formed}
@@ -73,3 +74,29 @@ SettledExactWide =
 -- After at least as many rounds as states, the last round parted nothing.
 abbrev pub RoundsBounded : Type 0
 RoundsBounded = (m : Model) → lawful m ≡ true → 0 < count m → (r : ℕ) → count m ≤ r → settled m r (levels m r) ≡ true
+
+-- a sentence that holds in s and not in t
+pub record Tells (m : Model) (s t : ℕ) (φ : List Line) : Type 0 where
+  pub formed : well_formed φ ≡ true
+  pub in_s : holds m φ s ≡ true
+  pub not_in_t : holds m φ t ≡ false
+
+-- a sentence that holds in only one of the two
+abbrev pub Splits : Model → ℕ → ℕ → List Line → Type 0
+Splits m s t φ = Tells m s t φ ⊎ Tells m t s φ
+
+-- Two states that round d parted are split by a sentence of depth d, the one that is made from the levels, and by none
+-- that is less deep.
+abbrev pub PartedExact : Type 0
+PartedExact =
+    (m : Model) → lawful m ≡ true → (r s t d : ℕ) → s < count m → t < count m → 0 < d → levels m r s t ≡ d
+    → (d ≤ r)
+    × Tells m s t (sentence m r (levels m r) s t)
+    × (depth (sentence m r (levels m r) s t) ≡ d)
+    × ((φ : List Line) → Splits m s t φ → d ≤ depth φ)
+
+-- Two states that r rounds leave together are split by no sentence of depth at most r.
+abbrev pub UnpartedExact : Type 0
+UnpartedExact =
+    (m : Model) → lawful m ≡ true → (r s t : ℕ) → s < count m → t < count m → levels m r s t ≡ 0
+    → (φ : List Line) → depth φ ≤ r → Splits m s t φ → ⊥

@@ -4,5 +4,6 @@ pub mod Lists
 pub mod Sentences
 pub mod Matching
 pub mod Stages
+pub mod Telling
 pub mod Laws
 pub mod Cases

@@ -3,7 +3,7 @@
 #![tactic(auto)]
 
 ghost use Rattle.theory.specs.Cases.{MatchingCases};
-ghost use Rattle.theory.specs.Laws.{CutExact, DepthZeroConstant, LevelsExact, LinesMean, MatchExact, RoundsBounded, SettledExact, StagesExact};
+ghost use Rattle.theory.specs.Laws.{CutExact, DepthZeroConstant, LevelsExact, LinesMean, MatchExact, PartedExact, RoundsBounded, SettledExact, StagesExact, UnpartedExact};
 
 /// A part of a step-line: a line, and the least share, k of m, of a step's weight that must lead to where that line holds.
 /// The definitions take one with any numbers, not only such as fit these types.
@@ -57,4 +57,15 @@ pub fn settled_is_exact()
 /// As many rounds as there are states are enough.
 pub fn rounds_are_bounded()
     ensures { RoundsBounded }
+{}
+
+/// Two states that a round parted are told apart by the sentence that is made from the levels. It is as deep as that round's
+/// number, and none less deep tells them apart.
+pub fn parted_is_exact()
+    ensures { PartedExact }
+{}
+
+/// No sentence tells two states apart that as many rounds as it is deep leave together.
+pub fn unparted_is_exact()
+    ensures { UnpartedExact }
 {}
