@@ -2,7 +2,7 @@
 // however large the sentence.
 #![tactic(auto)]
 
-ghost use Rattle.theory.specs.Cases.{MatchingCases};
+ghost use Rattle.theory.specs.Cases.{MatchingCases, RoundCases, TellingCases};
 ghost use Rattle.theory.specs.Laws.{CutExact, DepthZeroConstant, LevelsExact, LinesMean, MatchExact, PartedExact, RoundsBounded, SettledExact, StagesExact, UnpartedExact};
 
 /// A part of a step-line: a line, and the least share, k of m, of a step's weight that must lead to where that line holds.
@@ -68,4 +68,14 @@ pub fn parted_is_exact()
 /// No sentence tells two states apart that as many rounds as it is deep leave together.
 pub fn unparted_is_exact()
     ensures { UnpartedExact }
+{}
+
+/// Four models, which round parts which of their states, and when no round parts more.
+pub fn round_cases()
+    ensures { RoundCases }
+{}
+
+/// The sentence that tells a fair coin from an unfair one.
+pub fn telling_cases()
+    ensures { TellingCases }
 {}
