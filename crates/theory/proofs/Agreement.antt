@@ -13,8 +13,8 @@ use Rattle.theory.specs.Stages.{levels, stage}
 use Rattle.theory.specs.Sentences.{all_of, any_of, Line, not_of, StateSet, step_to, depth, holds, line_depth, line_holds, part_holds, set_of, share}
 use Rattle.theory.specs.declared.Part.{Part}
 use Rattle.theory.specs.Laws.{Splits, UnpartedExact}
-use Rattle.theory.proofs.Tests.{all_same, any_same, any_true, same_bool, some_true}
-use Rattle.theory.proofs.Elements.{all_both, all_unmap, some_both, some_of_all}
+use Rattle.theory.proofs.Tests.{all_same, any_same, any_true, same_bool, some_true, all_unmap}
+use Rattle.theory.proofs.Elements.{all_both, some_both, some_of_all}
 use Rattle.theory.proofs.Induction.{AllHold, sentence_induction}
 use Rattle.theory.proofs.Lawful.{SoundStep, steps_are_sound}
 use Rattle.theory.proofs.Dominance.{dominates, matches_action, ratio_through}

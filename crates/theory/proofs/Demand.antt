@@ -6,8 +6,8 @@ use Rattle.std.proofs.ByRecursion.{All-weaker}
 use Rattle.std.proofs.lemmas.Bool.{and_from, and_parts}
 use Rattle.model.specs.declared.Branch.{Branch}
 use Rattle.theory.specs.Matching.{Relation}
-use Rattle.theory.proofs.Tests.{any_filter, any_true, some_true}
-use Rattle.theory.proofs.Elements.{all_always, some_weaker}
+use Rattle.theory.proofs.Tests.{any_filter, any_true, some_true, all_always}
+use Rattle.theory.proofs.Elements.{some_weaker}
 use Rattle.theory.proofs.Sums.{cond_le, sum_add, sum_filter, sum_le, sum_of, sum_same}
 
 -- whether v is related to a member of U

@@ -9,17 +9,9 @@ use Rattle.std.proofs.lemmas.List.Sums.{fails_before_first, passes_at_first}
 use Rattle.theory.specs.Lists.{AnyByRecursion as Any}
 
 module _ {X : Type 0} (P : X → Type 0) where
-  pub all_always : ((x : X) → P x) → (xs : List X) → All P xs
-  all_always f [] = tt
-  all_always f (x ∷ xs) = (f x, all_always f xs)
-
   pub all_split : (xs ys : List X) → All P (xs ++ ys) → All P xs × All P ys
   all_split [] ys h = (tt, h)
   all_split (x ∷ xs) ys h = let r = all_split xs ys h.1 in ((h.0, r.0), r.1)
-
-  pub all_unmap : {Y : Type 0} (f : Y → X) (ys : List Y) → All P (map f ys) → All (λ y. P (f y)) ys
-  all_unmap f [] h = tt
-  all_unmap f (y ∷ ys) h = (h.0, all_unmap f ys h.1)
 
   pub all_flat_map : {Y : Type 0} (f : Y → List X) (ys : List Y) → All (λ y. All P (f y)) ys → All P (flat_map f ys)
   all_flat_map f [] h = tt

@@ -9,7 +9,8 @@ use Rattle.model.specs.Lists.{parts}
 use Rattle.model.specs.declared.Branch.{Branch}
 use Rattle.model.proofs.Tests.{each_true}
 use Rattle.theory.specs.Matching.{Relation}
-use Rattle.theory.proofs.Elements.{all_always, all_both, all_split, all_unmap}
+use Rattle.theory.proofs.Tests.{all_always, all_unmap}
+use Rattle.theory.proofs.Elements.{all_both, all_split}
 use Rattle.theory.proofs.Sums.{filter_none, sum_add, sum_le, sum_of, sum_same, sum_zero}
 use Rattle.theory.proofs.Parts.{Rising, Single, all_single, filter_fails, part_filter}
 use Rattle.theory.proofs.Demand.{any_union, demand, demand_submodular, hit, meet, sum_modular, union}

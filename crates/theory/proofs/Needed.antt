@@ -10,8 +10,8 @@ use Rattle.theory.specs.Lists.{AnyByRecursion as Any}
 use Rattle.theory.specs.Matching.{Relation, cut}
 use Rattle.theory.specs.Stages.{Levels, states}
 use Rattle.theory.specs.Telling.{Pair, apart, keep, level_of, move, needed, pair, parted, parted_in, refers, rivals, same_pair, until}
-use Rattle.theory.proofs.Tests.{any_true}
-use Rattle.theory.proofs.Elements.{all_always, all_both, all_flat_map, all_reverse, all_self, some_flat_map, some_filter, some_left, some_map, some_reverse, some_right, some_weaker}
+use Rattle.theory.proofs.Tests.{any_true, all_always}
+use Rattle.theory.proofs.Elements.{all_both, all_flat_map, all_reverse, all_self, some_flat_map, some_filter, some_left, some_map, some_reverse, some_right, some_weaker}
 use Rattle.theory.proofs.Counting.{all_range, some_range}
 use Rattle.theory.proofs.Pairs.{Proper, Sound, before_false, level_of_pair, pair_path, proper_pair, same_pair_from}
 

@@ -7,8 +7,8 @@ use Rattle.model.specs.Lists.{parts}
 use Rattle.model.specs.Model.{rising}
 use Rattle.model.specs.declared.Branch.{Branch}
 use Rattle.theory.specs.Matching.{has_target}
-use Rattle.theory.proofs.Tests.{filter_same, some_false}
-use Rattle.theory.proofs.Elements.{all_both, all_split, all_unmap, some_of_all}
+use Rattle.theory.proofs.Tests.{filter_same, some_false, all_unmap}
+use Rattle.theory.proofs.Elements.{all_both, all_split, some_of_all}
 use Rattle.theory.proofs.Sums.{sum_of, sum_same, sum_zero}
 
 -- what a filter keeps is a part

@@ -12,7 +12,8 @@ use Rattle.theory.specs.Stages.{Levels, before}
 use Rattle.theory.specs.Sentences.{Line, not_of, step_to, part_holds, sets_of}
 use Rattle.theory.specs.declared.Part.{Part}
 use Rattle.theory.specs.Telling.{Block, Pair, Place, against, apart, level_of, line_for, move, mover, other, pair, pair_lines, refers, rivals, same_pair, until}
-use Rattle.theory.proofs.Elements.{all_both, all_flat_map_parts, all_unfiltered, all_unmap, some_of_all, some_weaker}
+use Rattle.theory.proofs.Tests.{all_unmap}
+use Rattle.theory.proofs.Elements.{all_both, all_flat_map_parts, all_unfiltered, some_of_all, some_weaker}
 use Rattle.theory.proofs.Cuts.{cut_outweighs}
 use Rattle.theory.proofs.Lawful.{SoundStep, steps_are_sound}
 use Rattle.theory.proofs.Saying.{Formed, Says, says_at, says_deeper, says_grown}

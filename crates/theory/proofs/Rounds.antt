@@ -8,7 +8,7 @@ use Rattle.model.specs.Model.{Model, count, lawful}
 use Rattle.theory.specs.Matching.{Relation}
 use Rattle.theory.specs.Stages.{stage, states}
 use Rattle.theory.specs.Laws.{RoundsBounded}
-use Rattle.theory.proofs.Elements.{all_always}
+use Rattle.theory.proofs.Tests.{all_always}
 use Rattle.theory.proofs.Counting.{any_below, least_exists, none_below, some_below, some_range}
 use Rattle.theory.proofs.Sums.{count_by_lt}
 use Rattle.theory.proofs.Stages.{Equivalence, Stable, stable_next, stage_down, stage_equivalence, stage_inside}

@@ -1,4 +1,5 @@
--- What a test of every element, or of some, says of the elements, and tests and functions that agree on them. Assumes nothing.
+-- What a test of every element, or of some, says of the elements, tests and functions that agree on
+-- them, and what holds of all. Assumes nothing.
 use Rattle.std.proofs.Common.{◌≡◌, Bool, true, false, cond, ◌&&◌, ◌||◌, List, [], ◌∷◌, map, filter, sym, refl, ap, inl, inr}
 use Rattle.std.specs.List.{AllByRecursion as All, list_all, list_any}
 use Rattle.std.proofs.lemmas.Bool.{and_cases, and_left, and_right, false≢true, or_cases, or_from, or_left, or_parts, or_right, true≢false}
@@ -65,3 +66,11 @@ share_same X Y a h = ap mass (filter_same (λ b. X b.target) (λ b. Y b.target) 
 pub map_same : {X Y : Type 0} (f g : X → Y) (xs : List X) → All (λ x. f x ≡ g x) xs → map f xs ≡ map g xs
 map_same f g [] h = refl
 map_same f g (x ∷ xs) h = rw (h.0, map_same f g xs h.1)
+
+pub all_unmap : {X Y : Type 0} (P : X → Type 0) (f : Y → X) (ys : List Y) → All P (map f ys) → All (λ y. P (f y)) ys
+all_unmap P f [] h = tt
+all_unmap P f (y ∷ ys) h = (h.0, all_unmap P f ys h.1)
+
+pub all_always : {X : Type 0} (P : X → Type 0) → ((x : X) → P x) → (xs : List X) → All P xs
+all_always P f [] = tt
+all_always P f (x ∷ xs) = (f x, all_always P f xs)

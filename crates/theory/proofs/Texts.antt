@@ -9,7 +9,7 @@ use Rattle.model.proofs.Greatest.{greatest_least}
 use Rattle.model.proofs.Tests.{all_at, each_true}
 use Rattle.theory.specs.Sentences.{all_of, any_of, Line, not_of, step_to, depth_at, depths_from, depths_of, fits_after, in_range, line_depth}
 use Rattle.theory.specs.Sentences.{line_holds, names, nowhere, one_of_first, own_depth, sets_from, sets_of, well_formed_from}
-use Rattle.theory.proofs.Elements.{all_always}
+use Rattle.theory.proofs.Tests.{all_always}
 
 -- a run over a list that pushes one value for each element
 module _ {X Y : Type 0} (f : List Y → X → Y) (run : List Y → List X → List Y)

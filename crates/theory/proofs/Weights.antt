@@ -8,7 +8,8 @@ use Rattle.model.specs.Model.{Step, total}
 use Rattle.model.specs.declared.Branch.{Branch}
 use Rattle.theory.specs.Matching.{Holds, Matches, Relation, matches, surplus}
 use Rattle.theory.specs.Laws.{MatchExact}
-use Rattle.theory.proofs.Elements.{all_always, all_both}
+use Rattle.theory.proofs.Tests.{all_always}
+use Rattle.theory.proofs.Elements.{all_both}
 use Rattle.theory.proofs.Sums.{same_from_sum, sum_add, sum_le, sum_of, sum_same, sum_swap, sum_by_is}
 use Rattle.theory.proofs.Parts.{Rising, all_single, among, rising_is}
 use Rattle.theory.proofs.Demand.{demand, demand_same, hit}
