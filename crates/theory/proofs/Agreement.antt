@@ -2,7 +2,7 @@
 use Rattle.std.proofs.Common.{◌≡◌, ℕ, zero, suc, ◌+◌, ◌-◌, ◌*◌, ◌<◌, ◌≤◌, Bool, true, not, ◌&&◌, eqb, List, [], ◌∷◌, map, get_or, sym, refl, ap, ◌∙◌, subst, inl, inr, arith}
 use Rattle.std.specs.List.{AllByRecursion as All, list_all, list_any}
 use Rattle.std.proofs.ByRecursion.{All-weaker}
-use Rattle.std.proofs.lemmas.Bool.{and_from, and_parts, both_ways, cases_lt, le-leb, leb-true}
+use Rattle.std.proofs.lemmas.Bool.{both_ways, cases_lt, le-leb, leb-true}
 use Rattle.model.specs.Lists.{greatest}
 use Rattle.model.specs.Model.{Model, Step, count, lawful, steps_of, total}
 use Rattle.model.proofs.Tests.{all_true, each_true}
@@ -54,10 +54,9 @@ module _ (m : Model) (law : lawful m ≡ true) where
 
         step_moves : passes a ≡ true → passes b ≡ true
         step_moves h =
-            let e = and_parts (eqb a.action act) (list_all (part_holds sets a) qs) h in
-            and_from (eqb b.action act) (list_all (part_holds sets b) qs)
-            (subst (λ x. eqb x act ≡ true) (matches_action (stage m g) a b match) e.0)
-            (all_true _ qs (all_both _ _ _ part_moves qs deep (each_true _ qs e.1)))
+            let each : list_all (part_holds sets a) qs ≡ true = grind arith in
+            let all : list_all (part_holds sets b) qs ≡ true = all_true _ qs (all_both _ _ _ part_moves qs deep (each_true _ qs each)) in
+            grind (arith, matches_action (stage m g) a b match)
 
       some_moves : (s t : ℕ) → stage m (suc g) s t ≡ true → list_any passes (steps_of m s) ≡ true → list_any passes (steps_of m t) ≡ true
       some_moves s t h k =

@@ -1,7 +1,7 @@
 -- Counted numbers: what holds of all of them or of some, and the least that passes a test. Assumes nothing.
-use Rattle.std.proofs.Common.{◌≡◌, ℕ, zero, suc, ◌+◌, ◌<◌, ◌≤◌, Bool, true, false, ◌⊎◌, refl, subst, inl, inr, arith}
+use Rattle.std.proofs.Common.{◌≡◌, ℕ, zero, suc, ◌+◌, ◌<◌, ◌≤◌, Bool, true, false, ◌⊎◌, refl, inl, inr, arith}
 use Rattle.std.specs.List.{range_with_len, AllByRecursion as All, list_all, list_any}
-use Rattle.std.proofs.lemmas.Bool.{both_ways, cases_Bool, cases_eq, false_from_ne_true}
+use Rattle.std.proofs.lemmas.Bool.{both_ways, cases_Bool, cases_eq}
 use Rattle.model.proofs.Tests.{all_true, each_true}
 use Rattle.theory.specs.Lists.{AnyByRecursion as Any}
 use Rattle.theory.proofs.Tests.{any_false, any_true, some_true}
@@ -14,19 +14,11 @@ module _ (P : ℕ → Type 0) where
 
   all_range_at : (a n : ℕ) → All P (range_with_len a n) → (u : ℕ) → a ≤ u → u < a + n → P u
   all_range_at a zero h u l k = absurd (omega arith)
-  all_range_at a (suc n) h u l k =
-      elim (cases_eq a u) [
-        | inl e ↦ subst P e h.0
-        | inr ne ↦ all_range_at (a + 1) n h.1 u (omega arith) (omega arith)
-      ]
+  all_range_at a (suc n) h u l k = grind (arith, all_range_at (a + 1) n h.1)
 
   pub some_range : (a n u : ℕ) → a ≤ u → u < a + n → P u → Any P (range_with_len a n)
   some_range a zero u l k h = absurd (omega arith)
-  some_range a (suc n) u l k h =
-      elim (cases_eq u a) [
-        | inl e ↦ inl (subst P e h)
-        | inr ne ↦ inr (some_range (a + 1) n u (omega arith) (omega arith) h)
-      ]
+  some_range a (suc n) u l k h = grind (arith, some_range (a + 1) n u)
 
 -- tests of the numbers below n
 module _ (p : ℕ → Bool) where
@@ -57,9 +49,6 @@ least_exists p s h = elim (from (suc s)) [ inl k ↦ k | inr none ↦ absurd (bo
           | inl k ↦ inl k
           | inr none ↦ elim (cases_Bool (p n)) [
             | inl here ↦ inl (n, here, none)
-            | inr not_here ↦ inr (none_below p (suc n) (λ u l. elim (cases_eq u n) [
-              | inl e ↦ rw e not_here
-              | inr ne ↦ false_from_ne_true (p u) (λ k. both_ways _ none (any_below p n u (omega arith) k))
-            ]))
+            | inr past ↦ inr (none_below p (suc n) (λ u l. grind (arith, cases_eq u n, cases_Bool (p u), any_below p n u)))
           ]
         ]

@@ -1,10 +1,11 @@
 -- The cut is the smallest set of greatest surplus. Assumes nothing.
-use Rattle.std.proofs.Common.{◌≡◌, ℕ, ◌-◌, ◌*◌, ◌<◌, ◌≤◌, Bool, true, false, ◌&&◌, ◌||◌, ltb, List, [], ◌∷◌, length, filter, sym, refl, ap, ◌∙◌, subst, inl, inr, arith}
+use Rattle.std.proofs.lemmas.Bool.Decides.{nat_tests}
+use Rattle.std.proofs.Common.{◌≡◌, ℕ, ◌-◌, ◌*◌, ◌<◌, ◌≤◌, Bool, true, false, ◌&&◌, ◌||◌, ltb, List, [], ◌∷◌, length, filter, sym, ap, ◌∙◌, subst, inl, inr, arith}
 use mathlib.Core.Bool.{and_assoc}
 use mathlib.Core.Path.{fun_ext}
 use Rattle.std.specs.List.{AllByRecursion as All, list_all}
 use Rattle.std.proofs.ByRecursion.{All-weaker}
-use Rattle.std.proofs.lemmas.Bool.{both_ways, cases_Bool, le-ltb, ltb-false, ltb-true, or_cases}
+use Rattle.std.proofs.lemmas.Bool.{cases_Bool, ltb-false, ltb-true}
 use Rattle.model.specs.Lists.{parts}
 use Rattle.model.specs.Model.{Step, mass, rising, total}
 use Rattle.model.specs.declared.Branch.{Branch}
@@ -20,11 +21,10 @@ use Rattle.theory.proofs.Demand.{demand, demand_submodular, meet, sum_modular, u
 use Rattle.theory.proofs.Surplus.{some_surplus, surplus_is}
 
 and_implied : (c p : Bool) → (c ≡ true → p ≡ true) → c ≡ (c && p)
-and_implied true p h = sym (h refl)
-and_implied false p h = refl
+and_implied c p h = grind arith
 
 or_second : (a b : Bool) → a ≡ false → (a || b) ≡ true → b ≡ true
-or_second a b e h = elim (or_cases a b h) [ inl k ↦ absurd (both_ways a e k) | inr k ↦ k ]
+or_second a b e h = grind arith
 
 module _ (R : Relation) (a b : Step) where
   -- p keeps a set of greatest surplus
@@ -57,14 +57,22 @@ module _ (R : Relation) (a b : Step) where
   best_meet p q bp bq =
       let s : Branch → ℕ = λ u. u.weight * total b in
       let e : Branch → ℕ = λ v. v.weight * total a in
-      let K : (Branch → Bool) → List Branch = λ p. filter p a.branches in
-      let net : (Branch → Bool) → ℕ = λ p. sum_of s (K p) - demand R b.branches e (K p) in
-      let is : (p : Branch → Bool) → surplus R a b (K p) ≡ net p = λ p. surplus_is R a b (K p) in
-      let hp : net p ≡ most R a b = sym (is p) ∙ bp in
-      let hq : net q ≡ most R a b = sym (is q) ∙ bq in
-      let above : net (union p q) ≤ most R a b = rw (is (union p q)) at (part_filter _ (union p q) a.branches surplus_le_most) in
-      let below : net (meet p q) ≤ most R a b = rw (is (meet p q)) at (part_filter _ (meet p q) a.branches surplus_le_most) in
-      rw (is (meet p q)) (omega (arith, sum_modular p q s a.branches, demand_submodular R b.branches e p q a.branches))
+      let is : (p : Branch → Bool) → surplus R a b (filter p a.branches) ≡ sum_of s (filter p a.branches) - demand R b.branches e (filter p a.branches) =
+      λ p. surplus_is R a b (filter p a.branches) in
+      let under : (p : Branch → Bool) → surplus R a b (filter p a.branches) ≤ most R a b = λ p. part_filter _ p a.branches surplus_le_most in
+      omega (
+        arith,
+        is p,
+        is q,
+        is (union p q),
+        is (meet p q),
+        under (union p q),
+        under (meet p q),
+        sum_modular p q s a.branches,
+        demand_submodular R b.branches e p q a.branches,
+        bp,
+        bq,
+      )
 
   -- in every one of the sets of Us that is of greatest surplus
   abbrev common : List (List Branch) → Branch → Bool
@@ -88,10 +96,9 @@ module _ (R : Relation) (a b : Step) where
   common_in_best : (p : Branch → Bool) → Best p → Rising a.branches
       → All (λ u. common (parts a.branches) u ≡ true → p u ≡ true) a.branches
   common_in_best p bp rises =
-      let full : ltb (surplus R a b (filter p a.branches)) (most R a b) ≡ false = le-ltb _ _ (omega (arith, bp)) in
       All-weaker _ _ (λ u e c.
-      sym e ∙ or_second _ _ full (part_filter _ p a.branches (each_true _ (parts a.branches) c)))
-      a.branches (among_filter p a.branches rises)
+      let among_or = part_filter _ p a.branches (each_true _ (parts a.branches) c) in grind (arith, nat_tests)) a.branches
+      (among_filter p a.branches rises)
 
   cut_best : Rising a.branches → Best (common (parts a.branches))
   cut_best rises =

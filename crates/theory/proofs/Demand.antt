@@ -1,14 +1,12 @@
 -- The demand of what a set of branches stands to is submodular: of the union and the meet of two sets. Assumes nothing.
-use Rattle.std.proofs.Common.{◌≡◌, ℕ, ◌+◌, ◌≤◌, Bool, true, false, cond, ◌&&◌, ◌||◌, List, [], ◌∷◌, filter, sym, refl, ap, ◌∙◌, arith}
-use mathlib.Core.Bool.{or-true}
+use Rattle.std.proofs.Common.{◌≡◌, ℕ, ◌+◌, ◌≤◌, Bool, true, cond, ◌&&◌, ◌||◌, List, [], ◌∷◌, filter, sym, refl, ap, ◌∙◌, arith}
 use Rattle.std.specs.List.{AllByRecursion as All, list_any}
 use Rattle.std.proofs.ByRecursion.{All-weaker}
-use Rattle.std.proofs.lemmas.Bool.{and_from, and_parts}
+use Rattle.std.proofs.lemmas.Bool.{false≢true}
 use Rattle.model.specs.declared.Branch.{Branch}
 use Rattle.theory.specs.Matching.{Relation}
-use Rattle.theory.proofs.Tests.{any_filter, any_true, some_true, all_always}
-use Rattle.theory.proofs.Elements.{some_weaker}
-use Rattle.theory.proofs.Sums.{cond_le, sum_add, sum_filter, sum_le, sum_of, sum_same}
+use Rattle.theory.proofs.Tests.{any_filter, all_always}
+use Rattle.theory.proofs.Sums.{sum_add, sum_filter, sum_le, sum_of, sum_same}
 
 -- whether v is related to a member of U
 abbrev pub hit : Relation → List Branch → Branch → Bool
@@ -25,23 +23,10 @@ abbrev pub meet : {X : Type 0} → (X → Bool) → (X → Bool) → X → Bool
 meet p q x = p x && q x
 
 or_distributes : (p q g a b c : Bool) → c ≡ (a || b) → (((p || q) && g) || c) ≡ (((p && g) || a) || ((q && g) || b))
-or_distributes true true true a b c e = refl
-or_distributes true true false a b c e = e
-or_distributes true false true a b c e = refl
-or_distributes true false false a b c e = e
-or_distributes false true true a b c e = sym (or-true a)
-or_distributes false true false a b c e = e
-or_distributes false false true a b c e = e
-or_distributes false false false a b c e = e
+or_distributes p q g a b c e = grind arith
 
 cond_modular : (a b : Bool) (n : ℕ) → cond (a || b) n 0 + cond (a && b) n 0 ≡ cond a n 0 + cond b n 0
-cond_modular true true n = refl
-cond_modular true false n = refl
-cond_modular false true n = omega arith
-cond_modular false false n = refl
-
-any_wider : {X : Type 0} (f g : X → Bool) → ((x : X) → f x ≡ true → g x ≡ true) → (xs : List X) → list_any f xs ≡ true → list_any g xs ≡ true
-any_wider f g h xs e = any_true g xs (some_weaker _ _ h xs (some_true f xs e))
+cond_modular a b n = grind arith
 
 module _ {X : Type 0} (p q : X → Bool) where
   pub sum_modular : (s : X → ℕ) (xs : List X)
@@ -53,28 +38,20 @@ module _ {X : Type 0} (p q : X → Bool) where
   any_or : (g : X → Bool) (xs : List X)
       → list_any (λ x. (p x || q x) && g x) xs ≡ (list_any (λ x. p x && g x) xs || list_any (λ x. q x && g x) xs)
   any_or g [] = refl
-  any_or g (x ∷ xs) = or_distributes (p x) (q x) (g x) _ _ _ (any_or g xs)
+  any_or g (x ∷ xs) = grind (arith, any_or g xs)
 
   pub any_union : (g : X → Bool) (xs : List X) → list_any g (filter (union p q) xs) ≡ (list_any g (filter p xs) || list_any g (filter q xs))
   any_union g xs = simp any_filter (any_or g xs)
 
   any_meet : (g : X → Bool) (xs : List X)
       → list_any g (filter (meet p q) xs) ≡ true → (list_any g (filter p xs) && list_any g (filter q xs)) ≡ true
-  any_meet g xs = simp any_filter (λ e.
-      let of_p : (x : X) → ((p x && q x) && g x) ≡ true → (p x && g x) ≡ true =
-      λ x k. let r = and_parts (p x && q x) (g x) k in and_from (p x) (g x) (and_parts (p x) (q x) r.0).0 r.1 in
-      let of_q : (x : X) → ((p x && q x) && g x) ≡ true → (q x && g x) ≡ true =
-      λ x k. let r = and_parts (p x && q x) (g x) k in and_from (q x) (g x) (and_parts (p x) (q x) r.0).1 r.1 in
-      and_from _ _ (any_wider _ _ of_p xs e) (any_wider _ _ of_q xs e))
+  any_meet g [] e = absurd (false≢true e)
+  any_meet g (x ∷ xs) e = grind (arith, any_meet g xs)
 
   any_submodular : (g : X → Bool) (xs : List X) (n : ℕ)
       → cond (list_any g (filter (union p q) xs)) n 0 + cond (list_any g (filter (meet p q) xs)) n 0
       ≤ cond (list_any g (filter p xs)) n 0 + cond (list_any g (filter q xs)) n 0
-  any_submodular g xs n =
-      let a : Bool = list_any g (filter p xs) in
-      let b : Bool = list_any g (filter q xs) in
-      let both : cond (list_any g (filter (meet p q) xs)) n 0 ≤ cond (a && b) n 0 = cond_le _ _ n (any_meet g xs) in
-      rw (any_union g xs) (omega (arith, cond_modular a b n))
+  any_submodular g xs n = grind (arith, any_union g xs, any_meet g xs)
 
 module _ (R : Relation) (ys : List Branch) where
   pub demand_submodular : (e : Branch → ℕ) (p q : Branch → Bool) (xs : List Branch)

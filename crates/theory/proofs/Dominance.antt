@@ -1,5 +1,5 @@
 -- A match as an inequality of shares over sets of states: mirrored, composed, widened. Assumes nothing.
-use Rattle.std.proofs.Common.{◌≡◌, ℕ, ◌+◌, ◌*◌, ◌<◌, ◌≤◌, Bool, true, not, ◌&&◌, List, filter, sym, refl, ap, subst, le_trans, mul-le-mul_right, mul_comm, add-mul, mul_right_comm, le_of_mul-le-mul_right, arith}
+use Rattle.std.proofs.Common.{◌≡◌, ℕ, ◌+◌, ◌*◌, ◌<◌, ◌≤◌, Bool, true, not, ◌&&◌, List, filter, sym, refl, ap, subst, mul-le-mul_right, mul_comm, add-mul, le_of_mul-le-mul_right, arith}
 use Rattle.std.specs.List.{range_with_len, AllByRecursion as All, list_any}
 use Rattle.std.proofs.ByRecursion.{all_kept_by, All-weaker, kept_by_passes}
 use Rattle.std.proofs.lemmas.List.Filters.{sum_by-filter_both}
@@ -36,13 +36,11 @@ pub ratio_through : (k a x m b y : ℕ) → k * a ≤ x * m → x * b ≤ y * a 
 ratio_through k a x m b y h g pos =
     let low : k * a * b ≤ x * m * b = mul-le-mul_right b h in
     let high : x * b * m ≤ y * a * m = mul-le-mul_right m g in
-    le_of_mul-le-mul_right {k = a}
-    (rw (mul_right_comm k b a, mul_right_comm y m a) (le_trans low (rw (mul_right_comm x m b) high))) pos
+    le_of_mul-le-mul_right {k = a} (omega arith) pos
 
 -- a smaller share of the rest is a greater share of the part
 ratio_of_rest : (a b x x' y y' : ℕ) → x' + x ≡ a → y' + y ≡ b → x' * b ≤ y' * a → y * a ≤ x * b
-ratio_of_rest a b x x' y y' ea eb h =
-    omega (arith, add-mul x' x b, add-mul y' y a, mul_comm a b, ap (λ n. n * b) ea, ap (λ n. n * a) eb)
+ratio_of_rest a b x x' y y' ea eb h = omega (arith, add-mul x' x b, add-mul y' y a, mul_comm a b, ap (λ n. n * b) ea, ap (λ n. n * a) eb)
 
 module _ (R : Relation) (a b : Step) where
   pub matches_action : matches R a b ≡ true → a.action ≡ b.action

@@ -3,7 +3,7 @@ use Rattle.std.proofs.Common.{false, ◌≤◌, ◌≡◌, ℕ, zero, suc, ◌<�
 use mathlib.Core.List.{reverse_aux}
 use Rattle.std.specs.List.{AllByRecursion as All, position_or_len}
 use Rattle.std.proofs.ByRecursion.{All-append, All-weaker}
-use Rattle.std.proofs.lemmas.Bool.{both_ways, cases_Bool, cases_lt}
+use Rattle.std.proofs.lemmas.Bool.{cases_lt}
 use Rattle.std.proofs.lemmas.List.Elements.{recursion_from_All}
 use Rattle.std.proofs.lemmas.List.Sums.{fails_before_first, passes_at_first}
 use Rattle.theory.specs.Lists.{AnyByRecursion as Any}
@@ -24,25 +24,20 @@ module _ {X : Type 0} (P : X → Type 0) where
   -- what holds of all that a filter keeps holds of each that passes
   pub all_unfiltered : (p : X → Bool) (xs : List X) → All P (filter p xs) → All (λ x. p x ≡ true → P x) xs
   all_unfiltered p [] h = tt
-  all_unfiltered p (x ∷ xs) h =
-      elim (cases_Bool (p x)) [
-        | inl e ↦ let k : P x × All P (filter p xs) = rw e at h in (λ _. k.0, all_unfiltered p xs k.1)
-        | inr e ↦ let k : All P (filter p xs) = rw e at h in (λ e'. absurd (both_ways (p x) e e'), all_unfiltered p xs k)
-      ]
+  all_unfiltered p (x ∷ xs) h = grind (arith, all_unfiltered p xs)
 
   pub all_reverse : (xs done : List X) → All P xs → All P done → All P (reverse_aux xs done)
   all_reverse [] done h k = k
   all_reverse (x ∷ xs) done h k = all_reverse xs (x ∷ done) h.1 (h.0, k)
 
   pub some_get_or : (d : X) (xs : List X) (k : ℕ) → k < length xs → P (get_or xs k d) → Any P xs
-  some_get_or d [] k h e = absurd (omega arith)
-  some_get_or d (x ∷ xs) zero h e = inl e
-  some_get_or d (x ∷ xs) (suc k) h e = inr (some_get_or d xs k (omega arith) e)
+  some_get_or d [] k l e = absurd (omega arith)
+  some_get_or d (x ∷ xs) zero l e = inl e
+  some_get_or d (x ∷ xs) (suc k) l e = inr (some_get_or d xs k (omega arith) e)
 
   pub some_left : (xs ys : List X) → Any P xs → Any P (xs ++ ys)
   some_left [] ys h = absurd h
-  some_left (x ∷ xs) ys (inl e) = inl e
-  some_left (x ∷ xs) ys (inr h) = inr (some_left xs ys h)
+  some_left (x ∷ xs) ys h = grind (arith, some_left xs ys)
 
   pub some_right : (xs ys : List X) → Any P ys → Any P (xs ++ ys)
   some_right [] ys h = h
@@ -50,8 +45,7 @@ module _ {X : Type 0} (P : X → Type 0) where
 
   pub some_map : {Y : Type 0} (f : Y → X) (ys : List Y) → Any (λ y. P (f y)) ys → Any P (map f ys)
   some_map f [] h = absurd h
-  some_map f (y ∷ ys) (inl e) = inl e
-  some_map f (y ∷ ys) (inr h) = inr (some_map f ys h)
+  some_map f (y ∷ ys) h = grind (arith, some_map f ys)
 
   pub some_flat_map : {Y : Type 0} (f : Y → List X) (ys : List Y) → Any (λ y. Any P (f y)) ys → Any P (flat_map f ys)
   some_flat_map f [] h = absurd h
@@ -60,23 +54,16 @@ module _ {X : Type 0} (P : X → Type 0) where
 
   pub some_filter : (p : X → Bool) (xs : List X) → Any (λ x. P x × (p x ≡ true)) xs → Any P (filter p xs)
   some_filter p [] h = absurd h
-  some_filter p (x ∷ xs) (inl e) = rw e.1 (inl e.0)
-  some_filter p (x ∷ xs) (inr h) =
-      let ih : Any P (filter p xs) = some_filter p xs h in
-      elim (cases_Bool (p x)) [ inl e ↦ rw e (inr ih) | inr e ↦ rw e ih ]
+  some_filter p (x ∷ xs) h = grind (arith, some_filter p xs)
 
   pub some_reverse : (xs done : List X) → Any P xs ⊎ Any P done → Any P (reverse_aux xs done)
-  some_reverse [] done (inl h) = absurd h
-  some_reverse [] done (inr h) = h
-  some_reverse (x ∷ xs) done (inl (inl e)) = some_reverse xs (x ∷ done) (inr (inl e))
-  some_reverse (x ∷ xs) done (inl (inr h)) = some_reverse xs (x ∷ done) (inl h)
-  some_reverse (x ∷ xs) done (inr h) = some_reverse xs (x ∷ done) (inr (inr h))
+  some_reverse [] done h = grind arith
+  some_reverse (x ∷ xs) done h = grind (arith, some_reverse xs (x ∷ done))
 
 module _ {X : Type 0} (P Q : X → Type 0) where
   pub some_weaker : ((x : X) → P x → Q x) → (xs : List X) → Any P xs → Any Q xs
   some_weaker f [] h = absurd h
-  some_weaker f (x ∷ xs) (inl e) = inl (f x e)
-  some_weaker f (x ∷ xs) (inr h) = inr (some_weaker f xs h)
+  some_weaker f (x ∷ xs) h = grind (arith, some_weaker f xs)
 
   -- an element of which Q holds, with what holds of all
   pub some_of_all : (xs : List X) → All P xs → Any Q xs → (x : X) × P x × Q x

@@ -1,10 +1,11 @@
 -- Hall's theorem: where every set of sources has enough demand among what it stands to, there is a flow. Assumes nothing.
-use Rattle.std.proofs.Common.{◌≡◌, ℕ, zero, suc, ◌+◌, ◌-◌, ◌<◌, ◌≤◌, Bool, true, false, cond, ◌||◌, eqb, leb, ◌⊎◌, List, [], ◌∷◌, map, filter, refl, ap, ◌∙◌, subst, inl, inr, arith}
+use Rattle.std.proofs.lemmas.Bool.Decides.{nat_tests}
+use Rattle.std.proofs.Common.{◌≡◌, ℕ, zero, suc, ◌+◌, ◌-◌, ◌<◌, ◌≤◌, Bool, true, false, cond, ◌||◌, eqb, leb, ◌⊎◌, List, [], ◌∷◌, map, filter, ap, ◌∙◌, subst, inl, inr, arith}
 use mathlib.Core.Path.{fun_ext}
 use native.Mathlib.Nat.{sub-zero}
 use Rattle.std.specs.List.{AllByRecursion as All, list_all}
 use Rattle.std.proofs.ByRecursion.{All-weaker}
-use Rattle.std.proofs.lemmas.Bool.{both_ways, cases_Bool, cases_eq, cases_lt, eq-eqb, false≢true, leb-false, leb-true, ne_eqb, or_left, or_right}
+use Rattle.std.proofs.lemmas.Bool.{both_ways, cases_Bool, cases_lt, leb-false, leb-true}
 use Rattle.model.specs.Lists.{parts}
 use Rattle.model.specs.declared.Branch.{Branch}
 use Rattle.model.proofs.Tests.{each_true}
@@ -20,18 +21,10 @@ abbrev less : (ℕ → ℕ) → ℕ → ℕ → ℕ
 less d t k = d k - cond (eqb k t) 1 0
 
 less_split : (h : Bool) (d : ℕ → ℕ) (k t : ℕ) → 0 < d t → cond h (d k) 0 ≡ cond h (less d t k) 0 + cond (eqb k t) (cond h 1 0) 0
-less_split h d k t pos =
-    elim (cases_eq k t) [
-      | inl e ↦
-          let here : 0 < d k = rw e pos in
-          rw (eq-eqb k t e) (elim h as (λ h. cond h (d k) 0 ≡ cond h (d k - 1) 0 + cond h 1 0) [ true ↦ omega arith | false ↦ refl ])
-      | inr n ↦ rw (ne_eqb k t n) (elim h as (λ h. cond h (d k) 0 ≡ cond h (d k - 0) 0 + 0) [ true ↦ omega arith | false ↦ refl ])
-    ]
+less_split h d k t pos = grind (arith, nat_tests)
 
 covered_le : (r h : Bool) (n : ℕ) → (r ≡ true → 0 < n → h ≡ true) → cond (r || h) n 0 ≤ cond h n 0
-covered_le true true n c = omega arith
-covered_le true false n c = elim (cases_lt 0 n) [ inl pos ↦ absurd (false≢true (c refl pos)) | inr small ↦ small ]
-covered_le false h n c = omega arith
+covered_le r h n c = grind arith
 
 module _ (R : Relation) (s : Branch → ℕ) (ys : List Branch) where
   abbrev pub need : (ℕ → ℕ) → List Branch → ℕ
@@ -91,14 +84,7 @@ module _ (R : Relation) (s : Branch → ℕ) (ys : List Branch) where
                   let over : need (less d z.target) K < sum_of s K = leb-false _ _ r.1 in
                   let under : sum_of s K ≤ need d K = part_filter (Enough d) r.0 xs enough in
                   let split : need d K ≡ need (less d z.target) K + cond (hit R K z) 1 0 = need_less d z pos single K in
-                  elim (cases_Bool (hit R K z)) [
-                    | inl hits ↦
-                        let one_less : need d K ≡ need (less d z.target) K + 1 = rw hits at split in
-                        inr (r.0, omega arith, (λ rel pos. hits))
-                    | inr misses ↦
-                        let none_less : need d K ≡ need (less d z.target) K + 0 = rw misses at split in
-                        absurd (omega arith)
-                  ]
+                  inr (r.0, grind arith, (λ rel pos. grind arith))
             ]
           ]
         ]
@@ -119,10 +105,7 @@ module _ (R : Relation) (s : Branch → ℕ) (ys : List Branch) where
                 inr (
                   union p q,
                   tight_union enough p q r.1 r'.1,
-                  (
-                    (λ rel pos. both z ∙ or_right _ _ (r'.2 rel pos)),
-                    All-weaker _ _ (λ v c rel pos. both v ∙ or_left _ _ (c rel pos)) zs r.2,
-                  ),
+                  ((λ rel pos. grind (arith, both z, r'.2)), All-weaker _ _ (λ v c rel pos. grind (arith, both v)) zs r.2),
                 )
           ]
         ]
@@ -161,28 +144,13 @@ module _ (R : Relation) (s : Branch → ℕ) (ys : List Branch) where
       let g : (y : Branch) × Sendable x xs d y = some_sendable x xs d n rises rises_ys enough more in
       let y : Branch = g.0 in
       let here : 0 < d y.target = g.1.asks in
-      let one : ℕ → ℕ = λ k. cond (eqb k y.target) 1 0 in
       let more' : All (λ U. n + sum_of s U ≤ need (less d y.target) (x ∷ U)) (parts xs) =
-      All-weaker _ _ (λ U h.
-      let e : need d (x ∷ U) ≡ need (less d y.target) (x ∷ U) + 1 =
-      rw g.1.related at (need_less d y here g.1.single (x ∷ U)) in
-      omega arith) (parts xs) more in
+      All-weaker _ _ (λ U h. let rel = g.1.related in let e = need_less d y here g.1.single (x ∷ U) in grind arith) (parts xs) more in
       let r : Row x xs n (less d y.target) = row_exists x xs rises rises_ys n (less d y.target) g.1.enough more' in
       record {
-        t = λ k. r.t k + one k;
-        related = λ k h. elim (cases_eq k y.target) [
-          | inl e ↦ rw e g.1.related
-          | inr n ↦ let h' : 0 < r.t k + 0 = rw (ne_eqb k y.target n) at h in r.related k (omega arith)
-        ];
-        within = λ k. elim (cases_eq k y.target) [
-          | inl e ↦
-              let pos : 0 < d k = rw e here in
-              let w : r.t k ≤ d k - 1 = rw (eq-eqb k y.target e) at (r.within k) in
-              rw (eq-eqb k y.target e) (omega arith)
-          | inr n ↦
-              let w : r.t k ≤ d k - 0 = rw (ne_eqb k y.target n) at (r.within k) in
-              rw (ne_eqb k y.target n) (omega arith)
-        ];
+        t = λ k. r.t k + cond (eqb k y.target) 1 0;
+        related = λ k h. let rel = g.1.related in grind (arith, nat_tests, r.related k);
+        within = λ k. grind (arith, nat_tests, r.within k);
         sent = sum_add _ _ ys ∙ omega (arith, r.sent, g.1.single (λ v. 1));
         enough = subst (λ f. All (Enough f) (parts xs)) (fun_ext (λ k. omega arith)) r.enough;
       }
@@ -194,28 +162,27 @@ module _ (R : Relation) (s : Branch → ℕ) (ys : List Branch) where
     pub received : (k : ℕ) → sum_of (λ u. w u.target k) xs ≤ d k
     pub related : All (λ u. (k : ℕ) → 0 < w u.target k → R u.target k ≡ true) xs
 
+  -- x sends t, and the others what they sent
+  abbrev with_source : Branch → (ℕ → ℕ) → (ℕ → ℕ → ℕ) → ℕ → ℕ → ℕ
+  with_source x t w i k = cond (eqb i x.target) (t k) (w i k)
+
   -- one source more
   flow_more : (x : Branch) (xs : List Branch) → All (λ u. x.target < u.target) xs
       → (d : ℕ → ℕ) (r : Row x xs (s x) d) → Flow xs (λ k. d k - r.t k) → Flow (x ∷ xs) d
   flow_more x xs above d r rest =
-      let w : ℕ → ℕ → ℕ = λ i k. cond (eqb i x.target) (r.t k) (rest.w i k) in
-      let here : (k : ℕ) → w x.target k ≡ r.t k = λ k. rw (eq-eqb x.target x.target refl) in
-      let later : All (λ u. (k : ℕ) → w u.target k ≡ rest.w u.target k) xs =
-      All-weaker _ _ (λ u l k. rw (ne_eqb u.target x.target (omega arith))) xs above in
+      let here : (k : ℕ) → with_source x r.t rest.w x.target k ≡ r.t k = λ k. grind (arith, nat_tests) in
+      let later : All (λ u. (k : ℕ) → with_source x r.t rest.w u.target k ≡ rest.w u.target k) xs =
+      All-weaker _ _ (λ u l k. grind (arith, nat_tests)) xs above in
       record {
-        w = w;
+        w = with_source x r.t rest.w;
         sent = (
           sum_same _ _ ys (all_always _ (λ v. here v.target) ys) ∙ r.sent,
           all_both _ _ _ (λ u l e. sum_same _ _ ys (all_always _ (λ v. l v.target) ys) ∙ e) xs later rest.sent,
         );
         received = λ k.
-            let same : sum_of (λ u. w u.target k) xs ≡ sum_of (λ u. rest.w u.target k) xs =
-            sum_same _ _ xs (All-weaker _ _ (λ u l. l k) xs later) in
+            let same = sum_same _ _ xs (All-weaker _ _ (λ u l. l k) xs later) in
             omega (arith, here k, rest.received k, r.within k);
-        related = (
-          (λ k h. r.related k (rw (here k) at h)),
-          all_both _ _ _ (λ u l e k h. e k (rw (l k) at h)) xs later rest.related,
-        );
+        related = ((λ k h. r.related k (rw (here k) at h)), all_both _ _ _ (λ u l e k h. e k (rw (l k) at h)) xs later rest.related);
       }
 
   pub flow_exists : (xs : List Branch) → Rising xs → Rising ys → (d : ℕ → ℕ) → All (Enough d) (parts xs) → Flow xs d

@@ -1,8 +1,9 @@
 -- What a line of each kind says, pushed on a text. Assumes nothing.
-use Rattle.std.proofs.Common.{◌≡◌, ℕ, ◌+◌, ◌-◌, ◌≤◌, Bool, true, false, ◌&&◌, eqb, ltb, leb, List, [], ◌∷◌, ◌++◌, map, length, get_or, sym, refl, subst, inl, inr, arith}
+use Rattle.std.proofs.lemmas.Bool.Decides.{nat_tests}
+use Rattle.std.proofs.Common.{◌≡◌, ℕ, ◌+◌, ◌-◌, ◌≤◌, Bool, true, false, ◌&&◌, eqb, ltb, leb, List, [], ◌∷◌, ◌++◌, map, length, get_or, refl, inl, inr, arith}
 use Rattle.std.specs.List.{range_with_len, AllByRecursion as All, list_all, list_any}
 use Rattle.std.proofs.ByRecursion.{All-map, All-weaker}
-use Rattle.std.proofs.lemmas.Bool.{and_from, and_left, and_right, cases_Bool, eq-eqb, le-leb, lt-ltb, not_from_false, not_from_true}
+use Rattle.std.proofs.lemmas.Bool.{and_from, not_from_false, not_from_true}
 use Rattle.model.specs.Lists.{greatest}
 use Rattle.model.specs.Model.{Model, Step, steps_of}
 use Rattle.model.proofs.Tests.{all_true}
@@ -16,7 +17,7 @@ use Rattle.theory.proofs.Saying.{Named, Says, says_push}
 
 module _ (ls : List Line) (e : ℕ) (js : List ℕ) (named : All (Named ls e) js) where
   named_fit : list_all (λ j. ltb 0 j && leb j (length ls)) js ≡ true
-  named_fit = all_true _ js (All-weaker _ _ (λ j n. and_from _ _ (lt-ltb 0 j n.low) (le-leb j (length ls) n.high)) js named)
+  named_fit = all_true _ js (All-weaker _ _ (λ j n. let low = n.low in let high = n.high in grind (arith, nat_tests)) js named)
 
   named_shallow : greatest (map (λ j. get_or (depths_of ls) (j - 1) 0) js) ≤ e
   named_shallow = greatest_least _ e js (All-weaker _ _ (λ j n. n.shallow) js named)
@@ -112,20 +113,15 @@ module _ (m : Model) (ls : List Line) where
       let js : List ℕ = map (λ q. q.line) qs in
       let named : All (Named ls e) js = All-map (Named ls e) _ qs (All-weaker _ _ (λ q p. p.named) qs h) in
       let takes : Step → Bool = λ b. eqb b.action a.action && list_all (part_holds (sets_of m ls) b) qs in
-      let a_takes : takes a ≡ true =
-      and_from _ _ (eq-eqb a.action a.action refl) (all_true _ qs (All-weaker _ _ (λ q p. p.passes) qs h)) in
+      let passes : list_all (part_holds (sets_of m ls) a) qs ≡ true = all_true _ qs (All-weaker _ _ (λ q p. p.passes) qs h) in
       let x_takes : list_any takes (steps_of m x) ≡ true =
-      any_true takes (steps_of m x) (some_weaker _ _ (λ b i. subst (λ c. takes c ≡ true) (sym i) a_takes) (steps_of m x) here) in
-      let fails : (b : Step) → (eqb b.action a.action ≡ true → Any (λ q. part_holds (sets_of m ls) b q ≡ false) qs) → takes b ≡ false =
-      λ b f. elim (cases_Bool (eqb b.action a.action)) [
-        | inl t ↦ and_right _ _ (all_false _ qs (f t))
-        | inr t ↦ and_left _ _ t
-      ] in
-      let y_fails : list_any takes (steps_of m y) ≡ false = any_false takes (steps_of m y) (All-weaker _ _ fails (steps_of m y) no_other) in
+      any_true takes (steps_of m x) (some_weaker _ _ (λ b i. grind (arith, nat_tests)) (steps_of m x) here) in
+      let y_fails : list_any takes (steps_of m y) ≡ false =
+      any_false takes (steps_of m y) (All-weaker _ _ (λ b f. grind (arith, all_false (part_holds (sets_of m ls) b) qs)) (steps_of m y) no_other) in
       record {
         fits = and_from _ _ (named_fit ls e js named) (and_from _ _ small (all_true _ qs (All-weaker _ _ (λ q p. p.ranged) qs h)));
         says = says_push m ls (step_to a.action qs) (Only x) (Only y) (e + 1)
-            (λ z k. subst (λ w. list_any takes (steps_of m w) ≡ true) (sym k) x_takes)
-            (λ z k. subst (λ w. list_any takes (steps_of m w) ≡ false) (sym k) y_fails)
+            (λ z k. grind arith)
+            (λ z k. grind arith)
             (omega (arith, named_shallow ls e js named));
       }

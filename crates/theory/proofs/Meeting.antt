@@ -1,8 +1,8 @@
 -- Met pairs: under a wider relation, of a state and itself, the other way round, through a third state. Assumes nothing.
-use Rattle.std.proofs.Common.{◌≡◌, ℕ, ◌<◌, Bool, true, sym, refl, ◌∙◌, subst}
+use Rattle.std.proofs.Common.{arith, ◌≡◌, ℕ, ◌<◌, Bool, true, sym, refl, ◌∙◌, subst}
 use Rattle.std.specs.List.{AllByRecursion as All, list_all, list_any}
 use Rattle.std.proofs.ByRecursion.{All-weaker}
-use Rattle.std.proofs.lemmas.Bool.{and_from, and_parts}
+use Rattle.std.proofs.lemmas.Bool.{and_from}
 use Rattle.model.specs.Model.{Model, Step, count, lawful, steps_of}
 use Rattle.model.proofs.Tests.{all_true, each_true}
 use Rattle.theory.specs.Lists.{AnyByRecursion as Any}
@@ -35,9 +35,7 @@ module _ (m : Model) where
   from_forth p s t h = all_true _ (steps_of m s) (All-weaker _ _ (λ a k. any_true (p a) (steps_of m t) k) (steps_of m s) h)
 
   pub both_from_met : (R : Relation) (s t : ℕ) → met m R s t ≡ true → Both m (Matching R) s t
-  both_from_met R s t h =
-      let e = and_parts _ _ h in
-      (forth_from (matches R) s t e.0, forth_from (λ b a. matches R a b) t s e.1)
+  both_from_met R s t h = (forth_from (matches R) s t (grind arith), forth_from (λ b a. matches R a b) t s (grind arith))
 
   pub met_from_both : (R : Relation) (s t : ℕ) → Both m (Matching R) s t → met m R s t ≡ true
   met_from_both R s t h = and_from _ _ (from_forth (matches R) s t h.0) (from_forth (λ b a. matches R a b) t s h.1)

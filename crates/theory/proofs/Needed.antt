@@ -1,9 +1,10 @@
 -- The pairs that a sentence needs, each after those to which it refers. Assumes nothing.
+use Rattle.std.proofs.lemmas.Bool.Decides.{nat_tests}
 use Rattle.std.proofs.Common.{◌≡◌, ℕ, zero, suc, ◌+◌, ◌<◌, Bool, true, false, not, ◌&&◌, eqb, ltb, ◌⊎◌, List, [], ◌∷◌, ◌++◌, reverse, filter, sym, refl, ◌∙◌, subst, inl, inr, arith, flat_map}
 use mathlib.Core.List.{reverse_aux, reverse_aux-append}
 use Rattle.std.specs.List.{range_with_len, AllByRecursion as All, list_any}
 use Rattle.std.proofs.ByRecursion.{All-map, All-weaker, kept_by_passes}
-use Rattle.std.proofs.lemmas.Bool.{and_from, and_parts, both_ways, cases_Bool, cases_eq, eq-eqb, eqb-true, lt-ltb, not-true}
+use Rattle.std.proofs.lemmas.Bool.{both_ways, cases_Bool, cases_eq, not-true}
 use Rattle.model.specs.Model.{Model, count}
 use Rattle.model.specs.declared.Branch.{Branch}
 use Rattle.theory.specs.Lists.{AnyByRecursion as Any}
@@ -28,7 +29,7 @@ ordered_weaker : (m : Model) (L : Levels) (P Q : Pair → Type 0)
 ordered_weaker m L P Q f [] h = tt
 ordered_weaker m L P Q f (q ∷ qs) h = (
   All-weaker P Q f (refers m (until L q) q) h.0,
-  ordered_weaker m L (λ p. P p ⊎ (q ≡ p)) (λ p. Q p ⊎ (q ≡ p)) (λ p k. elim k [ inl x ↦ inl (f p x) | inr x ↦ inr x ]) qs h.1,
+  ordered_weaker m L (λ p. P p ⊎ (q ≡ p)) (λ p. Q p ⊎ (q ≡ p)) (λ p k. grind (arith, f p)) qs h.1,
 )
 
 -- behind each pair stand all that were parted before it
@@ -44,30 +45,18 @@ not_wanted q p wanted e is h =
 module _ (m : Model) (L : Levels) where
   keep_has : (p : Pair) (wanted kept qs : List Pair)
       → Member p kept ⊎ (Member p wanted × Member p qs) → Member p (keep m L wanted kept qs)
-  keep_has p wanted kept [] (inl h) = h
-  keep_has p wanted kept [] (inr h) = absurd h.1
+  keep_has p wanted kept [] h = grind arith
   keep_has p wanted kept (q ∷ qs) h =
       let refs : List Pair = refers m (until L q) q in
       elim (cases_Bool (list_any (same_pair q) wanted)) [
-        | inl e ↦ rw e (keep_has p (refs ++ wanted) (q ∷ kept) qs (elim h [
-          | inl k ↦ inl (inr k)
-          | inr (k, inl x) ↦ inl (inl x)
-          | inr (k, inr x) ↦ inr (some_right _ refs wanted k, x)
-        ]))
-        | inr e ↦ rw e (keep_has p wanted kept qs (elim h [
-          | inl k ↦ inl k
-          | inr (k, inl x) ↦ absurd (not_wanted q p wanted e x k)
-          | inr (k, inr x) ↦ inr (k, x)
-        ]))
+        | inl e ↦ grind (arith, keep_has p (refs ++ wanted) (q ∷ kept) qs, some_right (λ x. x ≡ p) refs wanted)
+        | inr e ↦ grind (arith, keep_has p wanted kept qs, not_wanted q p wanted)
       ]
 
   keep_all : (P : Pair → Type 0) (wanted kept qs : List Pair) → All P kept → All P qs → All P (keep m L wanted kept qs)
   keep_all P wanted kept [] h k = h
   keep_all P wanted kept (q ∷ qs) h k =
-      elim (cases_Bool (list_any (same_pair q) wanted)) [
-        | inl e ↦ rw e (keep_all P (refers m (until L q) q ++ wanted) (q ∷ kept) qs (k.0, h) k.1)
-        | inr e ↦ rw e (keep_all P wanted kept qs h k.1)
-      ]
+      grind (arith, keep_all P (refers m (until L q) q ++ wanted) (q ∷ kept) qs, keep_all P wanted kept qs)
 
 module _ (m : Model) (r : ℕ) (L : Levels) (sound : Sound m r L) where
   refers_earlier : (q : Pair) → All (λ p. Proper L p × (level_of L p < level_of L q)) (refers m (until L q) q)
@@ -115,9 +104,7 @@ module _ (m : Model) (r : ℕ) (L : Levels) (sound : Sound m r L) where
       let P : Pair → Type 0 = λ p. Proper L p × (level_of L p ≡ d) in
       let test : ℕ → ℕ → Bool = λ s t. ltb s t && eqb (L s t) d in
       let of_round : (s t : ℕ) → test s t ≡ true → P (pair s t) =
-      λ s t k.
-      let e : L s t ≡ d = eqb-true (L s t) d (and_parts (ltb s t) (eqb (L s t) d) k).1 in
-      (proper_pair L sound s t (omega arith), level_of_pair L sound s t ∙ e) in
+      λ s t k. (proper_pair L sound s t (grind (arith, nat_tests)), grind (arith, nat_tests, level_of_pair L sound s t)) in
       all_flat_map P _ (states m) (all_always _ (λ s.
       All-map P _ (filter (test s) (states m))
       (All-weaker _ _ (of_round s) (filter (test s) (states m)) (kept_by_passes (test s) (states m)))) (states m))
@@ -129,10 +116,10 @@ module _ (m : Model) (r : ℕ) (L : Levels) (sound : Sound m r L) where
       let d : ℕ = level_of L p in
       let test : ℕ → ℕ → Bool = λ s t. ltb s t && eqb (L s t) d in
       let ins : (s < count m) × (t < count m) = sound.inside s t h.parted in
-      let e : pair s t ≡ p = pair_path (pair s t) p (omega (arith, h.two)) (omega (arith, h.two)) in
-      let passes : test s t ≡ true = and_from _ _ (lt-ltb s t h.two) (eq-eqb (L s t) d refl) in
+      let two : s < t = h.two in
+      let e : pair s t ≡ p = pair_path (pair s t) p (omega arith) (omega arith) in
       let at_t : Any (λ t. (pair s t ≡ p) × (test s t ≡ true)) (states m) =
-      some_range _ 0 (count m) t (omega arith) (omega (arith, ins.1)) (e, passes) in
+      some_range _ 0 (count m) t (omega arith) (omega (arith, ins.1)) (e, grind (arith, nat_tests)) in
       some_flat_map (λ x. x ≡ p) _ (states m) (some_range _ 0 (count m) s (omega arith) (omega (arith, ins.0))
       (some_map (λ x. x ≡ p) (λ t. pair s t) (filter (test s) (states m)) (some_filter _ (test s) (states m) at_t)))
 
@@ -153,10 +140,7 @@ module _ (m : Model) (r : ℕ) (L : Levels) (sound : Sound m r L) where
       let xs : List Pair = parted_in m L e in
       let more : List Pair = flat_map (parted_in m L) (range_with_len (e + 1) n) in
       let done' : Done (e + 1) (reverse_aux xs done) =
-      λ p pr lt. some_reverse _ xs done (elim (cases_eq (level_of L p) e) [
-        | inl k ↦ inl (subst (λ d. Member p (parted_in m L d)) k (parted_in_has p pr))
-        | inr k ↦ inr (d p pr (omega arith))
-      ]) in
+      λ p pr lt. some_reverse _ xs done (grind (arith, cases_eq (level_of L p) e, parted_in_has p pr, d p pr)) in
       subst (Complete L) (sym (reverse_aux-append xs more done))
       (rounds_complete n (e + 1) (reverse_aux xs done) (omega arith) done' (round_complete e xs done (parted_in_all e pos) d c))
 

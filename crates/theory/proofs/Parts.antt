@@ -1,8 +1,9 @@
 -- The parts of a list, and those of a list of branches with rising targets. Assumes nothing.
-use Rattle.std.proofs.Common.{◌≡◌, ℕ, ◌+◌, ◌<◌, ◌≤◌, Bool, true, false, cond, eqb, leb, List, [], ◌∷◌, map, filter, refl, ap, ◌∙◌, arith}
+use Rattle.std.proofs.lemmas.Bool.Decides.{nat_tests}
+use Rattle.std.proofs.Common.{◌≡◌, ℕ, ◌+◌, ◌<◌, ◌≤◌, Bool, true, false, cond, eqb, List, [], ◌∷◌, map, filter, refl, ap, ◌∙◌, arith}
 use Rattle.std.specs.List.{AllByRecursion as All, list_all}
 use Rattle.std.proofs.ByRecursion.{All-append, all_kept_by, All-map, All-weaker}
-use Rattle.std.proofs.lemmas.Bool.{and_parts, eq-eqb, leb-true, ne_eqb}
+use Rattle.std.proofs.lemmas.Bool.{eq-eqb, ne_eqb}
 use Rattle.model.specs.Lists.{parts}
 use Rattle.model.specs.Model.{rising}
 use Rattle.model.specs.declared.Branch.{Branch}
@@ -37,9 +38,8 @@ Rising (x ∷ xs) = All (λ u. x.target < u.target) xs × Rising xs
 rising_above : (low : ℕ) (xs : List Branch) → rising low xs ≡ true → All (λ u. low ≤ u.target) xs × Rising xs
 rising_above low [] h = (tt, tt)
 rising_above low (x ∷ xs) h =
-    let r = and_parts (leb low x.target) (rising (x.target + 1) xs) h in
-    let l : low ≤ x.target = leb-true low x.target r.0 in
-    let i = rising_above (x.target + 1) xs r.1 in
+    let l : low ≤ x.target = grind (arith, nat_tests) in
+    let i = rising_above (x.target + 1) xs (grind (arith, nat_tests)) in
     ((l, All-weaker _ _ (λ u k. omega arith) xs i.0), (All-weaker _ _ (λ u k. omega arith) xs i.0, i.1))
 
 pub rising_is : (xs : List Branch) → rising 0 xs ≡ true → Rising xs
@@ -51,13 +51,13 @@ among U u = has_target u.target U
 
 among_none : (t : ℕ) (U : List Branch) → All (λ u. t < u.target) U → has_target t U ≡ false
 among_none t [] h = refl
-among_none t (u ∷ U) h = rw (ne_eqb u.target t (omega arith)) (among_none t U h.1)
+among_none t (u ∷ U) h = grind (arith, nat_tests, among_none t U h.1)
 
 among_first : (x : Branch) (U : List Branch) → among (x ∷ U) x ≡ true
-among_first x U = rw (eq-eqb x.target x.target refl)
+among_first x U = grind (arith, nat_tests)
 
 among_rest : (x u : Branch) (U : List Branch) → x.target < u.target → among (x ∷ U) u ≡ among U u
-among_rest x u U h = rw (ne_eqb x.target u.target (omega arith))
+among_rest x u U h = grind (arith, nat_tests)
 
 -- a part is what the test for its targets keeps
 abbrev pub FilteredByTargets : List Branch → List Branch → Type 0

@@ -3,7 +3,7 @@ use Rattle.std.proofs.Common.{◌≡◌, ℕ, ◌+◌, ◌-◌, ◌<◌, Bool, t
 use Rattle.std.specs.List.{AllByRecursion as All}
 use Rattle.std.proofs.ByRecursion.{all_kept_by, All-weaker, kept_by_passes}
 use Rattle.std.proofs.lemmas.List.{append_assoc, length-append, length_push}
-use Rattle.std.proofs.lemmas.Bool.{both_ways, cases_Bool, eq-eqb, eqb-true, lt-ltb, ne_eqb, not-true}
+use Rattle.std.proofs.lemmas.Bool.{cases_Bool, eq-eqb, eqb-true, lt-ltb, ne_eqb, not-true}
 use Rattle.model.specs.Model.{Model, Step, count, lawful, steps_of}
 use Rattle.model.specs.declared.Branch.{Branch}
 use Rattle.theory.specs.Lists.{AnyByRecursion as Any}
@@ -55,10 +55,7 @@ module _ (m : Model) (L : Levels) (ls : List Line) (u v : ℕ) where
   line_says (x ∷ xs) h s =
       elim (cases_Bool (same_pair x.of (pair u v))) [
         | inl e ↦ rw e (says_here x (same_pair_true x.of (pair u v) e) h.0)
-        | inr e ↦ rw e (elim s [
-          | inl k ↦ absurd (both_ways _ e (same_pair_from x.of (pair u v) k))
-          | inr k ↦ line_says xs h.1 k
-        ])
+        | inr e ↦ rw e (line_says xs h.1 (grind (arith, same_pair_from x.of (pair u v))))
       ]
 
 -- the step_line and the not_line of a pair, after the lines against the rivals

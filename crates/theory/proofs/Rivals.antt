@@ -1,9 +1,10 @@
 -- The lines against the rivals of a step. Assumes nothing.
+use Rattle.std.proofs.lemmas.Bool.Decides.{nat_tests}
 use Rattle.std.proofs.Common.{◌≡◌, ℕ, ◌+◌, ◌*◌, ◌<◌, ◌≤◌, true, false, not, List, [], ◌∷◌, ◌++◌, map, length, refl, ◌∙◌, subst, inl, inr, mul-le-mul_right, arith}
 use Rattle.std.specs.List.{range_with_len, AllByRecursion as All, list_any}
 use Rattle.std.proofs.ByRecursion.{All-weaker}
 use Rattle.std.proofs.lemmas.List.{append_assoc, append-nil, length_push}
-use Rattle.std.proofs.lemmas.Bool.{and_from, both_ways, cases_Bool, le-leb, lt-leb, lt-ltb, not_from_false}
+use Rattle.std.proofs.lemmas.Bool.{both_ways, cases_Bool, le-leb, lt-leb, not_from_false}
 use Rattle.model.specs.Model.{Model, Step, mass, total}
 use Rattle.model.specs.declared.Branch.{Branch}
 use Rattle.theory.specs.Lists.{AnyByRecursion as Any}
@@ -121,7 +122,7 @@ module _ (m : Model) (T : List Line) (R : Relation) (a b : Step) (e j : ℕ)
       let le : mass (cut R a b) ≤ total a = sum_by_kept_part _ _ a.branches in
       record {
         named = s.named;
-        ranged = and_from _ _ (and_from _ _ (lt-ltb 0 (total a) pos) (le-leb (total a) 1000000000 small)) (le-leb _ _ le);
+        ranged = grind (arith, nat_tests);
         passes = le-leb _ _ (mul-le-mul_right (total a) share_of_a);
       }
 

@@ -3,7 +3,7 @@ use Rattle.std.proofs.Common.{◌≡◌, ℕ, zero, suc, ◌+◌, ◌<◌, ◌�
 use Rattle.std.specs.List.{range_with_len, list_any}
 use Rattle.std.proofs.lemmas.List.FromFn.{length-range_with_len}
 use Rattle.std.proofs.lemmas.List.Sums.{count_by-le-length}
-use Rattle.std.proofs.lemmas.Bool.{and_from, and_parts, both_ways, cases_Bool, cases_order, false≢true, not_from_false, not_from_true, not-true, false_from_ne_true}
+use Rattle.std.proofs.lemmas.Bool.{cases_Bool, cases_order, false≢true}
 use Rattle.model.specs.Model.{Model, count, lawful}
 use Rattle.theory.specs.Matching.{Relation}
 use Rattle.theory.specs.Stages.{stage, states}
@@ -19,21 +19,19 @@ abbrev leads : Relation → ℕ → Bool
 leads R s = not (list_any (λ u. R u s) (range_with_len 0 s))
 
 leads_not : (R : Relation) (u s : ℕ) → u < s → R u s ≡ true → leads R s ≡ false
-leads_not R u s l h = not_from_true _ (any_below (λ v. R v s) s u l h)
+leads_not R u s l h = grind (arith, any_below (λ v. R v s) s u)
 
 leads_narrower : (R S : Relation) → ((u v : ℕ) → S u v ≡ true → R u v ≡ true) → (s : ℕ) → leads R s ≡ true → leads S s ≡ true
 leads_narrower R S sub s h =
-    not_from_false _ (false_from_ne_true _ (λ k.
-    let x = some_below (λ u. S u s) s k in
-    both_ways (leads R s) (leads_not R x.0 s x.1 (sub x.0 s x.2)) h))
+    grind (arith, some_below (λ u. S u s) s, leads_not R, sub)
 
 module _ (m : Model) where
   leader_exists : (R : Relation) → Equivalence m R → (s : ℕ) → s < count m → (r : ℕ) × (R r s ≡ true) × (leads R r ≡ true)
   leader_exists R eq s ls =
       let x = least_exists (λ u. R u s) s (eq.itself s ls) in
       let none : (u : ℕ) → u < x.0 → R u x.0 ≡ false =
-      λ u l. false_from_ne_true _ (λ h. both_ways _ x.2 (any_below _ x.0 u l (eq.through u x.0 s h x.1))) in
-      (x.0, x.1, not_from_false _ (none_below _ x.0 none))
+      λ u l. grind (arith, cases_Bool (R u x.0), any_below (λ u. R u s) x.0 u, eq.through u x.0 s) in
+      (x.0, x.1, grind (arith, none_below _ x.0 none))
 
   -- where S parts a pair of R, a state leads in S that did not in R
   module _ (R S : Relation) (eR : Equivalence m R) (eS : Equivalence m S) (sub : (u v : ℕ) → S u v ≡ true → R u v ≡ true) where
@@ -45,9 +43,7 @@ module _ (m : Model) where
         let at : R a.0 t ≡ true = eR.through a.0 s t (sub a.0 s a.1) h in
         let ab : R a.0 b.0 ≡ true = eR.through a.0 t b.0 at (eR.mirror b.0 t (sub b.0 t b.1)) in
         elim (cases_order a.0 b.0) [
-          | inl e ↦
-              let together : S s t ≡ true = eS.through s a.0 t (eS.mirror a.0 s a.1) (rw e b.1) in
-              absurd (both_ways (S s t) lost together)
+          | inl e ↦ grind (arith, eS.mirror a.0 s, eS.through s a.0 t)
           | inr (inl lt) ↦ (b.0, (eS.inside b.0 t b.1).0, (leads_not R a.0 b.0 lt ab, b.2))
           | inr (inr gt) ↦ (a.0, (eS.inside a.0 s a.1).0, (leads_not R b.0 a.0 gt (eR.mirror a.0 b.0 ab), a.2))
         ]
@@ -84,15 +80,10 @@ module _ (m : Model) (law : lawful m ≡ true) where
         | inl some ↦
             let x = some_below loses (count m) some in
             let y = some_below (lost x.0) (count m) x.2 in
-            let e = and_parts (stage m k x.0 y.0) _ y.2 in
-            inr (x.0, y.0, e.0, not-true _ e.1)
-        | inr none ↦ inl (λ s t h. elim (cases_Bool (stage m (suc k) s t)) [
-          | inl kept ↦ kept
-          | inr gone ↦
-              let l = stage_inside m law k s t h in
-              let here : lost s t ≡ true = and_from _ _ h (not_from_false _ gone) in
-              absurd (both_ways _ none (any_below loses (count m) s l.0 (any_below (lost s) (count m) t l.1 here)))
-        ])
+            inr (x.0, y.0, grind arith, grind arith)
+        | inr none ↦ inl (λ s t h.
+            let l = stage_inside m law k s t h in
+            grind (arith, any_below loses (count m) s l.0, any_below (lost s) (count m) t l.1))
       ]
 
   stable_or_more : (k : ℕ) → Stable m k ⊎ (leaders m (stage m k) < leaders m (stage m (suc k)))

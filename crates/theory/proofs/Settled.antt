@@ -1,8 +1,9 @@
 -- After a round that parts nothing, the unparted pairs are those that some bisimulation relates. Assumes nothing.
-use Rattle.std.proofs.Common.{◌≡◌, ℕ, zero, suc, ◌<◌, Bool, true, false, not, eqb, ltb, inl, inr, arith}
+use Rattle.std.proofs.lemmas.Bool.Decides.{nat_tests}
+use Rattle.std.proofs.Common.{◌≡◌, ℕ, zero, suc, ◌<◌, Bool, true, false, not, eqb, ltb, arith}
 use Rattle.std.specs.List.{list_all}
 use Rattle.std.proofs.ByRecursion.{All-weaker}
-use Rattle.std.proofs.lemmas.Bool.{and_from, and_parts, both_ways, cases_Bool, eqb-false, false≢true, lt-ltb, ne_eqb, not_from_false, not-true}
+use Rattle.std.proofs.lemmas.Bool.{and_from, and_parts, false≢true, lt-ltb}
 use Rattle.model.specs.Model.{Model, Step, count, lawful}
 use Rattle.theory.specs.Matching.{Holds, Matches}
 use Rattle.theory.specs.Stages.{Bisimulation, levels, settled, stage, states}
@@ -24,19 +25,14 @@ module _ (m : Model) (law : lawful m ≡ true) (q : ℕ) where
       let l = stage_inside m law q s t here in
       let quiet : list_all (λ s. list_all (new s) (states m)) (states m) ≡ true = (and_parts (ltb 0 (suc q)) _ h).1 in
       let old : new s t ≡ true = each_below (new s) (count m) (each_below _ (count m) quiet s l.0) t l.1 in
-      elim (cases_Bool (stage m (suc q) s t)) [
-        | inl kept ↦ kept
-        | inr lost ↦
-            let e : levels m (suc q) s t ≡ suc q = level_from m law (suc q) s t q (omega arith) here lost in
-            absurd (eqb-false _ (suc q) (not-true _ old) e)
-      ]
+      grind (arith, nat_tests, level_from m law (suc q) s t q)
 
   pub settled_from_stable : Stable m q → settled m (suc q) (levels m (suc q)) ≡ true
   settled_from_stable h =
-      let old : (s t : ℕ) → s < count m → t < count m → levels m (suc q) s t ≡ suc q → ⊥ =
-      λ s t ls lt e. let x = parted_at m law (suc q) s t q ls lt e in both_ways _ x.2 (h s t x.1) in
+      let old : (s t : ℕ) → s < count m → t < count m → new s t ≡ true =
+      λ s t ls lt. grind (arith, nat_tests, parted_at m law (suc q) s t q ls lt, h s t) in
       and_from (ltb 0 (suc q)) _ (lt-ltb 0 (suc q) (omega arith)) (all_below _ (count m) (λ s ls.
-      all_below (new s) (count m) (λ t lt. not_from_false _ (ne_eqb _ (suc q) (old s t ls lt)))))
+      all_below (new s) (count m) (λ t lt. old s t ls lt)))
 
 -- weights under a relation are weights under a wider one
 weights_wider : (R S : ℕ → ℕ → Type 0) → ((u v : ℕ) → R u v → S u v) → (a b : Step) → Matches R a b → Matches S a b

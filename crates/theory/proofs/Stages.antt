@@ -1,5 +1,5 @@
 -- Each stage of a lawful model is an equivalence on the states, inside the one before. Assumes nothing.
-use Rattle.std.proofs.Common.{◌≡◌, ℕ, zero, suc, ◌<◌, ◌≤◌, true, false, ◌&&◌, ◌∙◌, subst, inl, inr, arith}
+use Rattle.std.proofs.Common.{◌≡◌, ℕ, zero, suc, ◌<◌, ◌≤◌, true, false, ◌&&◌, ◌∙◌, arith}
 use Rattle.std.proofs.lemmas.Bool.{and_from, and_parts, cases_eq}
 use Rattle.model.specs.Model.{Model, count, lawful}
 use Rattle.theory.specs.Matching.{Relation}
@@ -30,18 +30,12 @@ module _ (m : Model) (R : Relation) (s t : ℕ) where
 module _ (m : Model) (law : lawful m ≡ true) where
   narrowed_equivalence : (R : Relation) → Equivalence m R → Equivalence m (narrowed m R)
   narrowed_equivalence R eq =
+      let parts = narrowed_parts m R in
       record {
-        inside = λ s t h. eq.inside s t (narrowed_parts m R s t h).0;
+        inside = λ s t h. eq.inside s t (parts s t h).0;
         itself = λ s l. narrowed_from m R s s l l (eq.itself s l) (met_itself m law R eq.itself s);
-        mirror = λ s t h.
-            let k = narrowed_parts m R s t h in
-            let l = eq.inside s t k.0 in
-            narrowed_from m R t s l.1 l.0 (eq.mirror s t k.0) (met_back m law R (λ u v lu lv. eq.mirror u v) s t k.1);
-        through = λ s t u h g.
-            let k = narrowed_parts m R s t h in
-            let l = narrowed_parts m R t u g in
-            narrowed_from m R s u (eq.inside s t k.0).0 (eq.inside t u l.0).1 (eq.through s t u k.0 l.0)
-            (met_through m law R eq.through s t u k.1 l.1);
+        mirror = λ s t h. grind (arith, parts s t, eq.inside s t, eq.mirror s t, met_back m law R (λ u v lu lv. eq.mirror u v) s t, narrowed_from m R t s);
+        through = λ s t u h g. grind (arith, parts s t, parts t u, eq.inside s t, eq.inside t u, eq.through s t u, met_through m law R eq.through s t u, narrowed_from m R s u);
       }
 
   stage_first : Equivalence m (stage m 0)
@@ -52,8 +46,8 @@ module _ (m : Model) (law : lawful m ≡ true) where
       record {
         inside = in_all;
         itself = λ s l. all_in s s l l;
-        mirror = λ s t h. let k = in_all s t h in all_in t s k.1 k.0;
-        through = λ s t u h g. all_in s u (in_all s t h).0 (in_all t u g).1;
+        mirror = λ s t h. grind (arith, in_all s t, all_in t s);
+        through = λ s t u h g. grind (arith, in_all s t, in_all t u, all_in s u);
       }
 
   pub stage_equivalence : (k : ℕ) → Equivalence m (stage m k)
@@ -73,12 +67,8 @@ module _ (m : Model) (law : lawful m ≡ true) where
   stage_up k s t h g = let l = stage_inside k s t h in narrowed_from m (stage m k) s t l.0 l.1 h g
 
   pub stage_shrinks : (j k s t : ℕ) → j ≤ k → stage m k s t ≡ true → stage m j s t ≡ true
-  stage_shrinks j zero s t l h = let e : 0 ≡ j = omega arith in subst (λ i. stage m i s t ≡ true) e h
-  stage_shrinks j (suc k) s t l h =
-      elim (cases_eq (suc k) j) [
-        | inl e ↦ subst (λ i. stage m i s t ≡ true) e h
-        | inr ne ↦ stage_shrinks j k s t (omega arith) (stage_down k s t h)
-      ]
+  stage_shrinks j zero s t l h = grind arith
+  stage_shrinks j (suc k) s t l h = grind (arith, cases_eq (suc k) j, stage_shrinks j k s t, stage_down k s t)
 
   -- a round that parts nothing is followed by such rounds
   pub stable_next : (k : ℕ) → Stable m k → Stable m (suc k)

@@ -13,14 +13,10 @@ sum_of f [] = 0
 sum_of f (x ∷ xs) = f x + sum_of f xs
 
 pub cond_le : (a b : Bool) (n : ℕ) → (a ≡ true → b ≡ true) → cond a n 0 ≤ cond b n 0
-cond_le true b n h = rw (h refl) (omega arith)
-cond_le false b n h = omega arith
+cond_le a b n h = grind arith
 
 same_test : (a b : Bool) → ◌≡◌ {A = ℕ} (cond a 1 0) (cond b 1 0) → a ≡ b
-same_test true true e = refl
-same_test true false e = absurd (omega arith)
-same_test false true e = absurd (omega arith)
-same_test false false e = refl
+same_test a b e = grind arith
 
 module _ {X : Type 0} where
   pub sum_by_is : (f : X → ℕ) (xs : List X) → sum_by f xs ≡ sum_of f xs
@@ -37,11 +33,7 @@ module _ {X : Type 0} where
 
   pub sum_filter : (f : X → ℕ) (p : X → Bool) (xs : List X) → sum_of f (filter p xs) ≡ sum_of (λ x. cond (p x) (f x) 0) xs
   sum_filter f p [] = refl
-  sum_filter f p (x ∷ xs) =
-      elim (p x) as (λ b. sum_of f (cond b (x ∷ filter p xs) (filter p xs)) ≡ cond b (f x) 0 + sum_of (λ x. cond (p x) (f x) 0) xs) [
-        | true ↦ ap (λ n. f x + n) (sum_filter f p xs)
-        | false ↦ omega (arith, sum_filter f p xs)
-      ]
+  sum_filter f p (x ∷ xs) = grind (arith, sum_filter f p xs)
 
   pub filter_none : (xs : List X) → filter (λ x. false) xs ≡ []
   filter_none [] = refl

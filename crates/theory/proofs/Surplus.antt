@@ -1,8 +1,9 @@
 -- A surplus is supply less demand, and a match is an equal action and no surplus. Assumes nothing.
-use Rattle.std.proofs.Common.{◌≡◌, ℕ, ◌-◌, ◌*◌, ◌<◌, true, false, eqb, List, sym, ap, ◌∙◌, inl, inr, arith}
+use Rattle.std.proofs.lemmas.Bool.Decides.{nat_tests}
+use Rattle.std.proofs.Common.{◌≡◌, ℕ, ◌-◌, ◌*◌, ◌<◌, true, false, eqb, List, sym, ap, ◌∙◌, arith}
 use Rattle.std.specs.List.{AllByRecursion as All, list_all}
 use Rattle.std.proofs.ByRecursion.{All-weaker}
-use Rattle.std.proofs.lemmas.Bool.{and_cases, and_from, and_parts, eq-eqb, eqb-false, eqb-true}
+use Rattle.std.proofs.lemmas.Bool.{and_from, eq-eqb, eqb-true}
 use Rattle.model.specs.Lists.{parts}
 use Rattle.model.specs.Model.{Step, mass, total}
 use Rattle.model.specs.declared.Branch.{Branch}
@@ -27,8 +28,8 @@ surplus_is R a b U =
 module _ (R : Relation) (a b : Step) where
   pub matches_parts : matches R a b ≡ true → (a.action ≡ b.action) × All (λ U. surplus R a b U ≡ 0) (parts a.branches)
   matches_parts h =
-      let r = and_parts (eqb a.action b.action) (list_all (λ U. eqb (surplus R a b U) 0) (parts a.branches)) h in
-      (eqb-true _ _ r.0, All-weaker _ _ (λ U e. eqb-true _ _ e) (parts a.branches) (each_true _ (parts a.branches) r.1))
+      let each : list_all (λ U. eqb (surplus R a b U) 0) (parts a.branches) ≡ true = grind (arith, nat_tests) in
+      (grind (arith, nat_tests), All-weaker _ _ (λ U e. eqb-true _ _ e) (parts a.branches) (each_true _ (parts a.branches) each))
 
   -- it is enough to look at what the tests for targets keep
   pub matches_from_kept : Rising a.branches → a.action ≡ b.action
@@ -40,8 +41,5 @@ module _ (R : Relation) (a b : Step) where
   -- where the actions are equal and there is no match, some set has a surplus
   pub some_surplus : a.action ≡ b.action → matches R a b ≡ false → Any (λ U. 0 < surplus R a b U) (parts a.branches)
   some_surplus same h =
-      elim (and_cases (eqb a.action b.action) (list_all (λ U. eqb (surplus R a b U) 0) (parts a.branches)) h) [
-        | inl e ↦ absurd (eqb-false _ _ e same)
-        | inr e ↦ some_weaker _ _ (λ U k. let some : surplus R a b U ≡ 0 → ⊥ = eqb-false _ 0 k in omega arith) (parts a.branches)
-            (some_false _ (parts a.branches) e)
-      ]
+      let some : list_all (λ U. eqb (surplus R a b U) 0) (parts a.branches) ≡ false = grind (arith, nat_tests) in
+      some_weaker _ _ (λ U k. grind (arith, nat_tests)) (parts a.branches) (some_false _ (parts a.branches) some)

@@ -1,8 +1,8 @@
 -- A table holds what it was made from, and its default outside the model's states. Assumes nothing.
-use Rattle.std.proofs.Common.{◌≡◌, ℕ, ◌<◌, true, false, ◌⊎◌, List, [], map, get_or, sym, ap, ◌∙◌, inl, inr, arith}
+use Rattle.std.proofs.Common.{◌≡◌, ℕ, ◌<◌, true, false, ◌⊎◌, List, [], map, get_or, ap, ◌∙◌, arith}
 use Rattle.std.proofs.lemmas.List.FromFn.{get_or-map-range_with_len, length-map-range_with_len}
 use Rattle.std.proofs.lemmas.List.{get_or_past}
-use Rattle.std.proofs.lemmas.Bool.{both_ways, cases_lt}
+use Rattle.std.proofs.lemmas.Bool.{cases_lt}
 use Rattle.model.specs.Model.{Model, count}
 use Rattle.theory.specs.Matching.{Relation}
 use Rattle.theory.specs.Stages.{states, tabled}
@@ -18,23 +18,8 @@ module _ {X : Type 0} (m : Model) (d : X) (f : ℕ → ℕ → X) (s t : ℕ) wh
   tabled_in ls lt = ap (λ row. get_or row t d) (row_in ls) ∙ get_or-map-range_with_len (f s) 0 (count m) t t d lt (omega arith)
 
   pub tabled_cases : ((s < count m) × (t < count m)) ⊎ (tabled m d f s t ≡ d)
-  tabled_cases =
-      elim (cases_lt s (count m)) [
-        | inl ls ↦ elim (cases_lt t (count m)) [
-          | inl lt ↦ inl (ls, lt)
-          | inr le ↦
-              let past = get_or_past (map (f s) (states m)) t d (omega (arith, length-map-range_with_len (f s) 0 (count m))) in
-              inr (ap (λ row. get_or row t d) (row_in ls) ∙ past)
-        ]
-        | inr le ↦
-            let past = get_or_past the_rows s [] (omega (arith, length-map-range_with_len (λ u. map (f u) (states m)) 0 (count m))) in
-            inr (ap (λ row. get_or row t d) past)
-      ]
+  tabled_cases = grind (arith, cases_lt s (count m), cases_lt t (count m), row_in, get_or_past, length-map-range_with_len)
 
 pub tabled_true : (m : Model) (f : Relation) (s t : ℕ)
     → tabled m false f s t ≡ true → (s < count m) × (t < count m) × (f s t ≡ true)
-tabled_true m f s t h =
-    elim (tabled_cases m false f s t) [
-      | inl l ↦ (l.0, l.1, sym (tabled_in m false f s t l.0 l.1) ∙ h)
-      | inr e ↦ absurd (both_ways (tabled m false f s t) e h)
-    ]
+tabled_true m f s t h = grind (arith, tabled_cases m false f s t, tabled_in m false f s t)

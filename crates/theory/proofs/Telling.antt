@@ -28,8 +28,7 @@ module _ (m : Model) (r : ℕ) (L : Levels) (sound : Sound m r L) (law : lawful 
       → All (Proper L) qs → Ordered m L P qs → ((p : Pair) → P p → HasPlace places p) → Formed ls → All (Placed m L ls) places
       → WellWritten m L (written m L places ls qs)
       × ((p : Pair) → HasPlace places p ⊎ Member p qs → HasPlace (written m L places ls qs).places p)
-  well_written [] P places ls pr ord has formed placed =
-      (record { formed = formed; placed = placed }, λ p h. elim h [ inl k ↦ k | inr k ↦ absurd k ])
+  well_written [] P places ls pr ord has formed placed = (record { formed = formed; placed = placed }, λ p h. grind arith)
   well_written (q ∷ qs) P places ls pr ord has formed placed =
       let new : List Line = pair_lines m L places (length ls) q in
       let place : Place = record { of = q; number = length ls + length new - 1; holds_in = mover m (until L q) q } in
@@ -39,7 +38,7 @@ module _ (m : Model) (r : ℕ) (L : Levels) (sound : Sound m r L) (law : lawful 
       let rest =
       well_written qs (λ p. P p ⊎ (q ≡ p)) (place ∷ places) (ls ++ new) pr.1 ord.1
       (λ p k. elim k [ inl x ↦ inr (has p x) | inr x ↦ inl x ]) one.0 (one.1, grown) in
-      (rest.0, λ p h. rest.1 p (elim h [ inl k ↦ inl (inr k) | inr (inl x) ↦ inl (inl x) | inr (inr x) ↦ inr x ]))
+      (rest.0, λ p h. rest.1 p (grind arith))
 
   sentence_tells : (s t : ℕ) → 0 < L s t → Tells m s t (sentence m r L s t) × (depth (sentence m r L s t) ≤ L s t)
   sentence_tells s t h =

@@ -1,51 +1,43 @@
 -- What a test of every element, or of some, says of the elements, tests and functions that agree on
 -- them, and what holds of all. Assumes nothing.
-use Rattle.std.proofs.Common.{◌≡◌, Bool, true, false, cond, ◌&&◌, ◌||◌, List, [], ◌∷◌, map, filter, sym, refl, ap, inl, inr}
+use Rattle.std.proofs.Common.{◌≡◌, Bool, true, false, ◌&&◌, List, [], ◌∷◌, map, filter, refl, ap, arith}
 use Rattle.std.specs.List.{AllByRecursion as All, list_all, list_any}
-use Rattle.std.proofs.lemmas.Bool.{and_cases, and_left, and_right, false≢true, or_cases, or_from, or_left, or_parts, or_right, true≢false}
+use Rattle.std.proofs.lemmas.Bool.{false≢true, true≢false}
 use Rattle.model.specs.Model.{Step, mass}
 use Rattle.theory.specs.Lists.{AnyByRecursion as Any}
 use Rattle.theory.specs.Sentences.{StateSet, share}
 
 pub same_bool : (x y : Bool) → (x ≡ true → y ≡ true) → (y ≡ true → x ≡ true) → x ≡ y
-same_bool true y f g = sym (f refl)
-same_bool false true f g = g refl
-same_bool false false f g = refl
+same_bool x y f g = grind arith
 
 module _ {X : Type 0} (p : X → Bool) where
   pub any_true : (xs : List X) → Any (λ x. p x ≡ true) xs → list_any p xs ≡ true
   any_true [] h = absurd h
-  any_true (x ∷ xs) (inl e) = or_left (p x) (list_any p xs) e
-  any_true (x ∷ xs) (inr h) = or_right (p x) (list_any p xs) (any_true xs h)
+  any_true (x ∷ xs) h = grind (arith, any_true xs)
 
   pub some_true : (xs : List X) → list_any p xs ≡ true → Any (λ x. p x ≡ true) xs
   some_true [] h = absurd (false≢true h)
-  some_true (x ∷ xs) h = elim (or_cases (p x) (list_any p xs) h) [ inl e ↦ inl e | inr e ↦ inr (some_true xs e) ]
+  some_true (x ∷ xs) h = grind (arith, some_true xs)
 
   pub all_false : (xs : List X) → Any (λ x. p x ≡ false) xs → list_all p xs ≡ false
   all_false [] h = absurd h
-  all_false (x ∷ xs) (inl e) = and_left (p x) (list_all p xs) e
-  all_false (x ∷ xs) (inr h) = and_right (p x) (list_all p xs) (all_false xs h)
+  all_false (x ∷ xs) h = grind (arith, all_false xs)
 
   pub some_false : (xs : List X) → list_all p xs ≡ false → Any (λ x. p x ≡ false) xs
   some_false [] h = absurd (true≢false h)
-  some_false (x ∷ xs) h = elim (and_cases (p x) (list_all p xs) h) [ inl e ↦ inl e | inr e ↦ inr (some_false xs e) ]
+  some_false (x ∷ xs) h = grind (arith, some_false xs)
 
   pub any_false : (xs : List X) → All (λ x. p x ≡ false) xs → list_any p xs ≡ false
   any_false [] h = refl
-  any_false (x ∷ xs) h = or_from (p x) (list_any p xs) h.0 (any_false xs h.1)
+  any_false (x ∷ xs) h = grind (arith, any_false xs)
 
   pub each_false : (xs : List X) → list_any p xs ≡ false → All (λ x. p x ≡ false) xs
   each_false [] h = tt
-  each_false (x ∷ xs) h = let e = or_parts (p x) (list_any p xs) h in (e.0, each_false xs e.1)
+  each_false (x ∷ xs) h = grind (arith, each_false xs)
 
   pub any_filter : (g : X → Bool) (xs : List X) → list_any g (filter p xs) ≡ list_any (λ x. p x && g x) xs
   any_filter g [] = refl
-  any_filter g (x ∷ xs) =
-      elim (p x) as (λ b. list_any g (cond b (x ∷ filter p xs) (filter p xs)) ≡ (b && g x || list_any (λ x. p x && g x) xs)) [
-        | true ↦ ap (λ n. g x || n) (any_filter g xs)
-        | false ↦ any_filter g xs
-      ]
+  any_filter g (x ∷ xs) = grind (arith, any_filter g xs)
 
 module _ {X : Type 0} (p q : X → Bool) where
   pub all_same : (xs : List X) → All (λ x. p x ≡ q x) xs → list_all p xs ≡ list_all q xs

@@ -1,8 +1,7 @@
 -- Two steps match exactly where there is a weight function between them. Assumes nothing.
-use Rattle.std.proofs.Common.{◌≡◌, ℕ, ◌+◌, ◌*◌, ◌<◌, ◌≤◌, Bool, true, false, cond, ◌||◌, eqb, List, [], ◌∷◌, filter, sym, ap, ◌∙◌, inl, inr, mul_comm, arith}
+use Rattle.std.proofs.Common.{◌≡◌, ℕ, ◌+◌, ◌*◌, ◌<◌, ◌≤◌, Bool, true, false, cond, ◌||◌, eqb, List, [], ◌∷◌, filter, sym, ap, ◌∙◌, mul_comm, arith}
 use Rattle.std.specs.List.{AllByRecursion as All}
 use Rattle.std.proofs.ByRecursion.{All-weaker}
-use Rattle.std.proofs.lemmas.Bool.{cases_lt, false≢true}
 use Rattle.model.specs.Lists.{parts}
 use Rattle.model.specs.Model.{Step, total}
 use Rattle.model.specs.declared.Branch.{Branch}
@@ -18,13 +17,7 @@ use Rattle.theory.proofs.Surplus.{mass_mul, matches_from_kept, matches_parts, su
 
 -- what one source sends, beside what the others send
 beside_le : (r h : Bool) (n c : ℕ) → (0 < n → r ≡ true) → n + cond h c 0 ≤ cond (r || h) (n + c) 0
-beside_le true true n c k = omega arith
-beside_le true false n c k = omega arith
-beside_le false h n c k =
-    elim (cases_lt 0 n) [
-      | inl pos ↦ absurd (false≢true (k pos))
-      | inr none ↦ elim h as (λ h. n + cond h c 0 ≤ cond h (n + c) 0) [ true ↦ omega arith | false ↦ omega arith ]
-    ]
+beside_le r h n c k = grind arith
 
 module _ (R : Relation) (s : Branch → ℕ) (ys : List Branch) (w : ℕ → ℕ → ℕ) where
   -- what a set sends arrives where it stands to
@@ -38,17 +31,13 @@ module _ (R : Relation) (s : Branch → ℕ) (ys : List Branch) (w : ℕ → ℕ
       let own : Branch → ℕ = λ v. w x.target v.target in
       let rest : Branch → ℕ = λ v. sum_of (λ u. w u.target v.target) xs in
       let ih : sum_of s K ≤ demand R ys rest K = sent_le_demand p xs sent.1 related.1 in
+      let sum : sum_of (λ v. own v + cond (hit R K v) (rest v) 0) ys ≡ sum_of own ys + demand R ys rest K = sum_add _ _ ys in
+      let taken : sum_of (λ v. own v + cond (hit R K v) (rest v) 0) ys ≤ demand R ys (λ v. own v + rest v) (x ∷ K) =
+      sum_le _ _ ys (All-weaker _ _ (λ v k. beside_le _ (hit R K v) (own v) (rest v) k) ys related.0) in
+      let left : demand R ys rest K ≤ demand R ys (λ v. own v + rest v) K = sum_le _ _ ys (all_always _ (λ v. grind arith) ys) in
       elim (p x) as (λ b. sum_of s (cond b (x ∷ K) K) ≤ demand R ys (λ v. own v + rest v) (cond b (x ∷ K) K)) [
-        | true ↦
-            let sum : sum_of (λ v. own v + cond (hit R K v) (rest v) 0) ys ≡ sum_of own ys + demand R ys rest K = sum_add _ _ ys in
-            let le : sum_of (λ v. own v + cond (hit R K v) (rest v) 0) ys ≤ demand R ys (λ v. own v + rest v) (x ∷ K) =
-            sum_le _ _ ys (All-weaker _ _ (λ v k. beside_le _ (hit R K v) (own v) (rest v) k) ys related.0) in
-            omega (arith, sent.0)
-        | false ↦
-            let more : (v : Branch) → cond (hit R K v) (rest v) 0 ≤ cond (hit R K v) (own v + rest v) 0 =
-            λ v. elim (hit R K v) as (λ h. cond h (rest v) 0 ≤ cond h (own v + rest v) 0) [ true ↦ omega arith | false ↦ omega arith ] in
-            let le : demand R ys rest K ≤ demand R ys (λ v. own v + rest v) K = sum_le _ _ ys (all_always _ more ys) in
-            omega arith
+        | true ↦ omega (arith, sent.0)
+        | false ↦ omega arith
       ]
 
 module _ (R : Relation) (a b : Step) where
