@@ -1,9 +1,9 @@
 -- The cut is the smallest set of greatest surplus. Assumes nothing.
-use Rattle.std.proofs.lemmas.Bool.Decides.{nat_tests}
 use Rattle.std.proofs.Common.{◌≡◌, ℕ, ◌-◌, ◌*◌, ◌<◌, ◌≤◌, Bool, true, false, ◌&&◌, ◌||◌, ltb, List, [], ◌∷◌, length, filter, sym, ap, ◌∙◌, subst, inl, inr, arith}
 use mathlib.Core.Bool.{and_assoc}
 use mathlib.Core.Path.{fun_ext}
 use Rattle.std.specs.List.{AllByRecursion as All, list_all}
+use Rattle.std.proofs.lemmas.Bool.Decides.{nat_tests}
 use Rattle.std.proofs.ByRecursion.{All-weaker}
 use Rattle.std.proofs.lemmas.Bool.{cases_Bool, ltb-false, ltb-true}
 use Rattle.model.specs.Lists.{parts}
@@ -22,9 +22,6 @@ use Rattle.theory.proofs.Surplus.{some_surplus, surplus_is}
 
 and_implied : (c p : Bool) → (c ≡ true → p ≡ true) → c ≡ (c && p)
 and_implied c p h = grind arith
-
-or_second : (a b : Bool) → a ≡ false → (a || b) ≡ true → b ≡ true
-or_second a b e h = grind arith
 
 module _ (R : Relation) (a b : Step) where
   -- p keeps a set of greatest surplus

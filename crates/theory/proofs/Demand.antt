@@ -22,9 +22,6 @@ union p q x = p x || q x
 abbrev pub meet : {X : Type 0} → (X → Bool) → (X → Bool) → X → Bool
 meet p q x = p x && q x
 
-or_distributes : (p q g a b c : Bool) → c ≡ (a || b) → (((p || q) && g) || c) ≡ (((p && g) || a) || ((q && g) || b))
-or_distributes p q g a b c e = grind arith
-
 cond_modular : (a b : Bool) (n : ℕ) → cond (a || b) n 0 + cond (a && b) n 0 ≡ cond a n 0 + cond b n 0
 cond_modular a b n = grind arith
 

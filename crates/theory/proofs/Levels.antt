@@ -1,6 +1,6 @@
 -- The levels hold the stages: which pairs the rounds leave together, and when each other pair was parted. Assumes nothing.
-use Rattle.std.proofs.lemmas.Bool.Decides.{nat_tests}
 use Rattle.std.proofs.Common.{◌≡◌, ℕ, zero, suc, ◌+◌, ◌<◌, ◌≤◌, true, false, cond, not, ◌&&◌, ◌⊎◌, subst, inl, inr, arith}
+use Rattle.std.proofs.lemmas.Bool.Decides.{nat_tests}
 use Rattle.std.proofs.lemmas.Bool.{cases_Bool, cases_lt, cases_order}
 use Rattle.model.specs.Model.{Model, count, lawful}
 use Rattle.theory.specs.Stages.{before, levels, met, stage, unparted}

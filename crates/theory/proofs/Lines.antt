@@ -1,7 +1,7 @@
 -- What a line of each kind says, pushed on a text. Assumes nothing.
-use Rattle.std.proofs.lemmas.Bool.Decides.{nat_tests}
 use Rattle.std.proofs.Common.{◌≡◌, ℕ, ◌+◌, ◌-◌, ◌≤◌, Bool, true, false, ◌&&◌, eqb, ltb, leb, List, [], ◌∷◌, ◌++◌, map, length, get_or, refl, inl, inr, arith}
 use Rattle.std.specs.List.{range_with_len, AllByRecursion as All, list_all, list_any}
+use Rattle.std.proofs.lemmas.Bool.Decides.{nat_tests}
 use Rattle.std.proofs.ByRecursion.{All-map, All-weaker}
 use Rattle.std.proofs.lemmas.Bool.{and_from, not_from_false, not_from_true}
 use Rattle.model.specs.Lists.{greatest}

@@ -1,8 +1,8 @@
 -- The pairs that a sentence needs, each after those to which it refers. Assumes nothing.
-use Rattle.std.proofs.lemmas.Bool.Decides.{nat_tests}
 use Rattle.std.proofs.Common.{◌≡◌, ℕ, zero, suc, ◌+◌, ◌<◌, Bool, true, false, not, ◌&&◌, eqb, ltb, ◌⊎◌, List, [], ◌∷◌, ◌++◌, reverse, filter, sym, refl, ◌∙◌, subst, inl, inr, arith, flat_map}
 use mathlib.Core.List.{reverse_aux, reverse_aux-append}
 use Rattle.std.specs.List.{range_with_len, AllByRecursion as All, list_any}
+use Rattle.std.proofs.lemmas.Bool.Decides.{nat_tests}
 use Rattle.std.proofs.ByRecursion.{All-map, All-weaker, kept_by_passes}
 use Rattle.std.proofs.lemmas.Bool.{both_ways, cases_Bool, cases_eq, not-true}
 use Rattle.model.specs.Model.{Model, count}

@@ -1,6 +1,6 @@
 -- Pairs of states, and the laws of the levels from which a sentence is made. Assumes nothing.
-use Rattle.std.proofs.lemmas.Bool.Decides.{nat_tests}
 use Rattle.std.proofs.Common.{◌≡◌, ℕ, ◌<◌, ◌≤◌, true, false, ◌⊎◌, ap, arith}
+use Rattle.std.proofs.lemmas.Bool.Decides.{nat_tests}
 use Rattle.model.specs.Model.{Model, count, lawful}
 use Rattle.theory.specs.Stages.{Levels, before, levels, met}
 use Rattle.theory.specs.Telling.{Pair, level_of, pair, same_pair}
