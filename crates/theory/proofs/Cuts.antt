@@ -20,9 +20,6 @@ use Rattle.theory.proofs.Parts.{FilteredByTargets, Rising, among, among_filter, 
 use Rattle.theory.proofs.Demand.{demand, demand_submodular, meet, sum_modular, union}
 use Rattle.theory.proofs.Surplus.{some_surplus, surplus_is}
 
-and_implied : (c p : Bool) → (c ≡ true → p ≡ true) → c ≡ (c && p)
-and_implied c p h = grind arith
-
 module _ (R : Relation) (a b : Step) where
   -- p keeps a set of greatest surplus
   abbrev Best : (Branch → Bool) → Type 0
@@ -85,8 +82,8 @@ module _ (R : Relation) (a b : Step) where
         | inl smaller ↦ subst With (sym smaller) rest
         | inr full ↦
             let bU : Best (among U) = ap (surplus R a b) kept.0 ∙ omega (arith, ltb-false _ _ full, under.0) in
-            let bs = best_meet (among U) (λ u. common Us u && p u) bU rest in
-            subst With (sym full) (subst Best (fun_ext (λ u. sym (and_assoc (among U u) (common Us u) (p u)))) bs)
+            let both = best_meet (among U) (λ u. common Us u && p u) bU rest in
+            subst With (sym full) (subst Best (fun_ext (λ u. sym (and_assoc (among U u) (common Us u) (p u)))) both)
       ]
 
   -- a set of greatest surplus holds what is common to all
@@ -103,7 +100,7 @@ module _ (R : Relation) (a b : Step) where
       let c : Branch → Bool = common (parts a.branches) in
       let same : filter c a.branches ≡ filter (λ u. c u && r.0 u) a.branches =
       filter_same _ _ a.branches
-      (All-weaker _ _ (λ u h. and_implied (c u) (r.0 u) h) a.branches (common_in_best r.0 r.1 rises)) in
+      (All-weaker _ _ (λ u h. grind arith) a.branches (common_in_best r.0 r.1 rises)) in
       ap (surplus R a b) same
       ∙ best_common r.0 r.1 (parts a.branches) (parts_are_filtered a.branches rises) surplus_le_most
 

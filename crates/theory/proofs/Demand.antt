@@ -5,7 +5,7 @@ use Rattle.std.proofs.ByRecursion.{All-weaker}
 use Rattle.std.proofs.lemmas.Bool.{false≢true}
 use Rattle.model.specs.declared.Branch.{Branch}
 use Rattle.theory.specs.Matching.{Relation}
-use Rattle.theory.proofs.Tests.{any_filter, all_always}
+use Rattle.theory.proofs.Tests.{all_always}
 use Rattle.theory.proofs.Sums.{sum_add, sum_filter, sum_le, sum_of, sum_same}
 
 -- whether v is related to a member of U
@@ -32,13 +32,9 @@ module _ {X : Type 0} (p q : X → Bool) where
       let modular = sum_same _ _ xs (all_always _ (λ x. cond_modular (p x) (q x) (s x)) xs) in
       simp sum_filter (sym (sum_add _ _ xs) ∙ modular ∙ sum_add _ _ xs)
 
-  any_or : (g : X → Bool) (xs : List X)
-      → list_any (λ x. (p x || q x) && g x) xs ≡ (list_any (λ x. p x && g x) xs || list_any (λ x. q x && g x) xs)
-  any_or g [] = refl
-  any_or g (x ∷ xs) = grind (arith, any_or g xs)
-
   pub any_union : (g : X → Bool) (xs : List X) → list_any g (filter (union p q) xs) ≡ (list_any g (filter p xs) || list_any g (filter q xs))
-  any_union g xs = simp any_filter (any_or g xs)
+  any_union g [] = refl
+  any_union g (x ∷ xs) = grind (arith, any_union g xs)
 
   any_meet : (g : X → Bool) (xs : List X)
       → list_any g (filter (meet p q) xs) ≡ true → (list_any g (filter p xs) && list_any g (filter q xs)) ≡ true

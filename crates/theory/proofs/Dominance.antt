@@ -1,9 +1,9 @@
 -- A match as an inequality of shares over sets of states: mirrored, composed, widened. Assumes nothing.
-use Rattle.std.proofs.Common.{◌≡◌, ℕ, ◌+◌, ◌*◌, ◌<◌, ◌≤◌, Bool, true, not, ◌&&◌, List, filter, sym, refl, ap, subst, mul-le-mul_right, mul_comm, add-mul, le_of_mul-le-mul_right, arith}
+use Rattle.std.proofs.lemmas.Bool.Decides.{nat_tests}
+use Rattle.std.proofs.Common.{◌≡◌, ℕ, ◌+◌, ◌*◌, ◌<◌, ◌≤◌, Bool, true, not, ◌&&◌, List, filter, refl, ap, mul-le-mul_right, mul_comm, add-mul, le_of_mul-le-mul_right, arith}
 use Rattle.std.specs.List.{range_with_len, AllByRecursion as All, list_any}
 use Rattle.std.proofs.ByRecursion.{all_kept_by, All-weaker, kept_by_passes}
 use Rattle.std.proofs.lemmas.List.Filters.{sum_by-filter_both}
-use Rattle.std.proofs.lemmas.Bool.{and_from, and_parts, both_ways, eqb-true, not_from_false, not-true, false_from_ne_true}
 use Rattle.model.specs.Model.{Step, mass, total}
 use Rattle.model.specs.declared.Branch.{Branch}
 use Rattle.theory.specs.Matching.{Relation, has_target, image, matches, surplus}
@@ -65,12 +65,9 @@ module _ (R : Relation) (a b : Step) where
   no_surplus n h U kept =
       let Y : StateSet = λ v. list_any (λ u. R u.target v) U in
       let carries : Carries n R (λ t. has_target t U) Y =
-      λ u v lu lv x r. any_true _ U
-      (some_weaker _ _ (λ w e. subst (λ t. R t v ≡ true) (sym (eqb-true w.target u e)) r) U (some_true _ U x)) in
-      let k : mass (filter (among U) a.branches) * total b ≤ mass (image R U b) * total a = h (λ t. has_target t U) Y carries in
-      let k' : mass U * total b ≤ mass (image R U b) * total a =
-      subst (λ V. mass V * total b ≤ mass (image R U b) * total a) kept k in
-      omega arith
+      λ u v lu lv x r. any_true _ U (some_weaker _ _ (λ w e. grind (arith, nat_tests)) U (some_true _ U x)) in
+      let weighs : mass (filter (among U) a.branches) * total b ≤ mass (image R U b) * total a = h (λ t. has_target t U) Y carries in
+      grind arith
 
   pub matches_from : (n : ℕ) → SoundStep n a → a.action ≡ b.action → Dominates n R a b → matches R a b ≡ true
   matches_from n la e h = matches_from_kept R a b (rising_is a.branches la.rises) e (no_surplus n h)
@@ -89,9 +86,7 @@ module _ (n : ℕ) (R : Relation) where
   dominates_back a b mirror h X Y carries =
       let not_X : StateSet = λ v. not (X v) in
       let not_Y : StateSet = λ u. not (Y u) in
-      let back : Carries n R not_Y not_X =
-      λ u v lu lv y r. not_from_false (X v) (false_from_ne_true (X v) (λ x.
-      both_ways (Y u) (not-true (Y u) y) (carries v u lv lu x (mirror u v lu lv r)))) in
+      let back : Carries n R not_Y not_X = λ u v lu lv y r. grind (arith, mirror u v, carries v u) in
       ratio_of_rest (total a) (total b) (share Y a) (share not_Y a) (share X b) (share not_X b) (share_both Y a) (share_both X b)
       (h not_Y not_X back)
 
@@ -99,9 +94,7 @@ module _ (n : ℕ) (R : Relation) where
       → ((u v w : ℕ) → R u v ≡ true → R v w ≡ true → R u w ≡ true) → Dominates n R a b → Dominates n R b c → Dominates n R a c
   dominates_through a b c pos join h g X Z carries =
       let Y : StateSet = λ v. list_any (λ u. X u && R u v) (range_with_len 0 n) in
-      let into : Carries n R X Y = λ u v lu lv x r. any_below _ n u lu (and_from (X u) (R u v) x r) in
+      let into : Carries n R X Y = λ u v lu lv x r. any_below _ n u lu (grind arith) in
       let out : Carries n R Y Z =
-      λ v w lv lw y r. let from = some_below (λ u. X u && R u v) n y in
-      let xr = and_parts (X from.0) (R from.0 v) from.2 in
-      carries from.0 w from.1 lw xr.0 (join from.0 v w xr.1 r) in
+      λ v w lv lw y r. let from = some_below (λ u. X u && R u v) n y in grind (arith, join from.0 v w, carries from.0 w) in
       ratio_through (share X a) (total b) (share Y b) (total a) (total c) (share Z c) (h X Y into) (g Y Z out) pos

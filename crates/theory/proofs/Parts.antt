@@ -3,7 +3,6 @@ use Rattle.std.proofs.Common.{◌≡◌, ℕ, ◌+◌, ◌<◌, ◌≤◌, Bool,
 use Rattle.std.specs.List.{AllByRecursion as All, list_all}
 use Rattle.std.proofs.lemmas.Bool.Decides.{nat_tests}
 use Rattle.std.proofs.ByRecursion.{All-append, all_kept_by, All-map, All-weaker}
-use Rattle.std.proofs.lemmas.Bool.{eq-eqb, ne_eqb}
 use Rattle.model.specs.Lists.{parts}
 use Rattle.model.specs.Model.{rising}
 use Rattle.model.specs.declared.Branch.{Branch}
@@ -81,17 +80,9 @@ parts_are_filtered (x ∷ xs) h =
 pub among_filter : (p : Branch → Bool) (xs : List Branch) → Rising xs → All (λ u. among (filter p xs) u ≡ p u) xs
 among_filter p [] h = tt
 among_filter p (x ∷ xs) h =
-    let K : List Branch = filter p xs in (
-      elim (p x) as (λ b. among (cond b (x ∷ K) K) x ≡ b) [
-        | true ↦ among_first x K
-        | false ↦ among_none x.target K (all_kept_by p (λ u. x.target < u.target) xs h.0)
-      ],
-      all_both _ _ _ (λ u l e.
-          elim (p x) as (λ b. among (cond b (x ∷ K) K) u ≡ p u) [
-            | true ↦ among_rest x u K l ∙ e
-            | false ↦ e
-          ]) xs h.0 (among_filter p xs h.1),
-    )
+    let K : List Branch = filter p xs in
+    let none : has_target x.target K ≡ false = among_none x.target K (all_kept_by p (λ u. x.target < u.target) xs h.0) in
+    (grind (arith, nat_tests), all_both _ _ _ (λ u l e. grind (arith, among_rest x u K)) xs h.0 (among_filter p xs h.1))
 
 -- where some part fails a test, so does what some filter keeps
 pub filter_fails : (test : List Branch → Bool) (xs : List Branch)
@@ -109,8 +100,7 @@ all_single [] h = tt
 all_single (x ∷ xs) h = (
   λ f.
       let none : sum_of (λ z. cond (eqb z.target x.target) (f z) 0) xs ≡ 0 =
-      sum_same _ _ xs (All-weaker _ _ (λ u l. rw (ne_eqb u.target x.target (omega arith))) xs h.0) ∙ sum_zero xs in
-      rw (eq-eqb x.target x.target refl) (omega arith),
-  all_both _ _ _ (λ u l one f. rw (ne_eqb x.target u.target (omega arith)) (omega (arith, one f))) xs h.0
-      (all_single xs h.1),
+      sum_same _ _ xs (All-weaker _ _ (λ u l. grind (arith, nat_tests)) xs h.0) ∙ sum_zero xs in
+      grind (arith, nat_tests),
+  all_both _ _ _ (λ u l one f. grind (arith, nat_tests, one f)) xs h.0 (all_single xs h.1),
 )

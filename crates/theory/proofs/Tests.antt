@@ -1,6 +1,6 @@
 -- What a test of every element, or of some, says of the elements, tests and functions that agree on
 -- them, and what holds of all. Assumes nothing.
-use Rattle.std.proofs.Common.{◌≡◌, Bool, true, false, ◌&&◌, List, [], ◌∷◌, map, filter, refl, ap, arith}
+use Rattle.std.proofs.Common.{◌≡◌, Bool, true, false, List, [], ◌∷◌, map, filter, refl, ap, arith}
 use Rattle.std.specs.List.{AllByRecursion as All, list_all, list_any}
 use Rattle.std.proofs.lemmas.Bool.{false≢true, true≢false}
 use Rattle.model.specs.Model.{Step, mass}
@@ -34,10 +34,6 @@ module _ {X : Type 0} (p : X → Bool) where
   pub each_false : (xs : List X) → list_any p xs ≡ false → All (λ x. p x ≡ false) xs
   each_false [] h = tt
   each_false (x ∷ xs) h = grind (arith, each_false xs)
-
-  pub any_filter : (g : X → Bool) (xs : List X) → list_any g (filter p xs) ≡ list_any (λ x. p x && g x) xs
-  any_filter g [] = refl
-  any_filter g (x ∷ xs) = grind (arith, any_filter g xs)
 
 module _ {X : Type 0} (p q : X → Bool) where
   pub all_same : (xs : List X) → All (λ x. p x ≡ q x) xs → list_all p xs ≡ list_all q xs

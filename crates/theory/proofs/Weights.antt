@@ -65,7 +65,7 @@ module _ (R : Relation) (a b : Step) where
   asked_is : Rising b.branches → All (λ v. asked v.target ≡ v.weight * total a) b.branches
   asked_is rises = All-weaker _ _ (λ v single. single (λ v. v.weight * total a)) b.branches (all_single b.branches rises)
 
-  -- a flow fills what is asked for, since xs much is sent xs is asked for
+  -- a flow fills what is asked for, since as much is sent as is asked for
   weights_from_flow : Rising b.branches → a.action ≡ b.action
       → Flow R (λ u. u.weight * total b) b.branches a.branches asked → Matches (Holds R) a b
   weights_from_flow rises same r =
