@@ -118,7 +118,9 @@ module _ (R : Relation) (a b : Step) where
 pub cut_exact : CutExact
 cut_exact R a b rise =
     let rises : Rising a.branches = rising_is a.branches rise in
-    (cut_best R a b rises, λ keep best. let least = cut_least R a b keep best rises in (cut_in_best R a b keep best rises, least.0, least.1))
+    let largest = λ (keep : Branch → Bool). part_filter (λ U. surplus R a b U ≤ most R a b) keep a.branches (surplus_le_most R a b) in
+    let smallest = cut_least R a b in
+    (cut_best R a b rises, largest, λ keep best. (cut_in_best R a b keep best rises, (smallest keep best rises).0, (smallest keep best rises).1))
 
 -- where a and b have one action and do not match, the cut outweighs what it stands to
 pub cut_outweighs : (R : Relation) (a b : Step) → rising 0 a.branches ≡ true

@@ -11,7 +11,7 @@ use Rattle.theory.specs.Sentences.{StateSet, share}
 use Rattle.theory.proofs.Tests.{any_true, some_true}
 use Rattle.theory.proofs.Elements.{all_both, some_of_all, some_weaker}
 use Rattle.theory.proofs.Counting.{any_below, some_below}
-use Rattle.theory.proofs.Sums.{sum_by_kept_le}
+use Rattle.theory.proofs.Sums.{sum_by_filter_le}
 use Rattle.theory.proofs.Parts.{FilteredByTargets, among, part_filter, rising_is}
 use Rattle.theory.proofs.Surplus.{matches_from_kept, matches_parts}
 use Rattle.theory.proofs.Lawful.{SoundStep}
@@ -25,7 +25,7 @@ Dominates n R a b = (X Y : StateSet) → Carries n R X Y → share X a * total b
 
 share_le : (n : ℕ) (X Y : StateSet) (a : Step)
     → SoundStep n a → ((u : ℕ) → u < n → X u ≡ true → Y u ≡ true) → share X a ≤ share Y a
-share_le n X Y a la h = sum_by_kept_le _ _ _ a.branches (All-weaker _ _ (λ b l. h b.target l) a.branches la.inside)
+share_le n X Y a la h = sum_by_filter_le _ _ _ a.branches (All-weaker _ _ (λ b l. h b.target l) a.branches la.inside)
 
 share_both : (X : StateSet) (a : Step) → share (λ u. not (X u)) a + share X a ≡ total a
 share_both X a =
@@ -57,7 +57,7 @@ module _ (R : Relation) (a b : Step) where
       all_both _ _ _ (λ u l x. (l, x)) U below (kept_by_passes in_X a.branches) in
       let hit_in_Y : (v : Branch) → v.target < n → list_any (λ u. R u.target v.target) U ≡ true → Y v.target ≡ true =
       λ v lv e. let k = some_of_all _ _ U of_U (some_true _ U e) in carries k.0.target v.target k.1.0 lv k.1.1 k.2 in
-      let i : mass (image R U b) ≤ share Y b = sum_by_kept_le _ _ _ b.branches (All-weaker _ _ hit_in_Y b.branches lb.inside) in
+      let i : mass (image R U b) ≤ share Y b = sum_by_filter_le _ _ _ b.branches (All-weaker _ _ hit_in_Y b.branches lb.inside) in
       omega (arith, none, mul-le-mul_right (total a) i)
 
   -- and back

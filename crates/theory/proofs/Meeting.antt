@@ -41,10 +41,10 @@ module _ (m : Model) where
   met_from_both R s t h = and_from _ _ (from_forth (matches R) s t h.0) (from_forth (λ b a. matches R a b) t s h.1)
 
 module _ (m : Model) (law : lawful m ≡ true) where
-  abbrev Lawful : Step → Type 0
-  Lawful = SoundStep (count m)
+  abbrev Sound : Step → Type 0
+  Sound = SoundStep (count m)
 
-  sound_steps : (s : ℕ) → All Lawful (steps_of m s)
+  sound_steps : (s : ℕ) → All Sound (steps_of m s)
   sound_steps = steps_are_sound m law
 
   pub forth_weaker : (P Q : Step → Step → Type 0)
@@ -52,16 +52,16 @@ module _ (m : Model) (law : lawful m ≡ true) where
   forth_weaker P Q go s t h =
       all_both _ _ _ (λ a la k. some_both _ _ _ (λ b lb p. go a b la lb p) (steps_of m t) (sound_steps t) k) (steps_of m s) (sound_steps s) h
 
-  forth_itself : (P : Step → Step → Type 0) → ((a : Step) → Lawful a → P a a) → (s : ℕ) → Forth m P s s
+  forth_itself : (P : Step → Step → Type 0) → ((a : Step) → Sound a → P a a) → (s : ℕ) → Forth m P s s
   forth_itself P go s =
       all_both _ _ _ (λ a la k. some_weaker _ _ (λ b e. subst (P a) (sym e) (go a la)) (steps_of m s) k) (steps_of m s) (sound_steps s)
       (all_self (λ a b. b ≡ a) (λ a. refl) (steps_of m s))
 
   forth_through : (P : Step → Step → Type 0)
-      → ((a b c : Step) → Lawful a → Lawful b → Lawful c → P a b → P b c → P a c)
+      → ((a b c : Step) → Sound a → Sound b → Sound c → P a b → P b c → P a c)
       → (s t u : ℕ) → Forth m P s t → Forth m P t u → Forth m P s u
   forth_through P go s t u h g =
-      let next : All (λ b. Lawful b × Any (λ c. P b c) (steps_of m u)) (steps_of m t) =
+      let next : All (λ b. Sound b × Any (λ c. P b c) (steps_of m u)) (steps_of m t) =
       all_both _ _ _ (λ b lb k. (lb, k)) (steps_of m t) (sound_steps t) g in
       all_both _ _ _ (λ a la k.
       let r = some_of_all _ _ (steps_of m t) next k in
@@ -76,7 +76,7 @@ module _ (m : Model) (law : lawful m ≡ true) where
   abbrev Within : Relation → Relation → Type 0
   Within R S = (u v : ℕ) → u < count m → v < count m → R u v ≡ true → S u v ≡ true
 
-  matches_wider : (R S : Relation) → Within R S → (a b : Step) → Lawful a → Lawful b → Matching R a b → Matching S a b
+  matches_wider : (R S : Relation) → Within R S → (a b : Step) → Sound a → Sound b → Matching R a b → Matching S a b
   matches_wider R S sub a b la lb p =
       matches_from S a b (count m) la (matches_action R a b p)
       (dominates_wider (count m) R S a b sub (dominates R a b (count m) la lb p))
@@ -110,14 +110,14 @@ module _ (m : Model) (law : lawful m ≡ true) where
 
   pub met_itself : (R : Relation) → ((u : ℕ) → u < count m → R u u ≡ true) → (s : ℕ) → met m R s s ≡ true
   met_itself R itself s =
-      let same : (a : Step) → Lawful a → Matching R a a =
+      let same : (a : Step) → Sound a → Matching R a a =
       λ a la. matches_from R a a (count m) la refl (dominates_itself (count m) R a la itself) in
       met_from_both m R s s (forth_itself (Matching R) same s, forth_itself (λ b a. Matching R a b) same s)
 
   pub met_through : (R : Relation) → ((u v w : ℕ) → R u v ≡ true → R v w ≡ true → R u w ≡ true)
       → (s t u : ℕ) → met m R s t ≡ true → met m R t u ≡ true → met m R s u ≡ true
   met_through R join s t u h g =
-      let through : (a b c : Step) → Lawful a → Lawful b → Lawful c → Matching R a b → Matching R b c → Matching R a c =
+      let through : (a b c : Step) → Sound a → Sound b → Sound c → Matching R a b → Matching R b c → Matching R a c =
       λ a b c la lb lc p q. matches_from R a c (count m) la (matches_action R a b p ∙ matches_action R b c q)
       (dominates_through (count m) R a b c lb.heavy join (dominates R a b (count m) la lb p) (dominates R b c (count m) lb lc q)) in
       let k = both_from_met m R s t h in

@@ -14,7 +14,7 @@ use Rattle.theory.specs.declared.Part.{Part}
 use Rattle.theory.specs.Telling.{Block, Place, against, apart, apart_lines, line_for}
 use Rattle.theory.proofs.Tests.{each_false}
 use Rattle.theory.proofs.Elements.{all_self, all_swap, all_unfiltered}
-use Rattle.theory.proofs.Sums.{sum_by_kept_le, sum_by_kept_part}
+use Rattle.theory.proofs.Sums.{sum_by_filter_le, sum_by_filter_part}
 use Rattle.theory.proofs.Saying.{Formed, Named, Says, named_grown, says_at, says_grown, set_grown}
 use Rattle.theory.proofs.Texts.{well_formed_push}
 use Rattle.theory.proofs.Lines.{Along, Only, Passed, Pushed, push_all, push_any}
@@ -99,7 +99,7 @@ module _ (m : Model) (T : List Line) (R : Relation) (a b : Step) (e j : ℕ)
       let U : List Branch = cut R a b in
       let here : All (λ u. the_set u.target ≡ true) U =
       All-weaker _ _ (λ u k. s.holds u.target k) U (all_self (λ u w. u.target ≡ w.target) (λ u. refl) U) in
-      sum_by_kept_le _ _ _ a.branches (all_unfiltered (λ u. the_set u.target ≡ true) _ a.branches here)
+      sum_by_filter_le _ _ _ a.branches (all_unfiltered (λ u. the_set u.target ≡ true) _ a.branches here)
 
   share_of_b : share the_set b ≤ mass (image R (cut R a b) b)
   share_of_b =
@@ -109,7 +109,7 @@ module _ (m : Model) (T : List Line) (R : Relation) (a b : Step) (e j : ℕ)
       let when_apart : All (λ v. (u : Branch) → not (R u.target v.target) ≡ true → Fails R b u v.target) b.branches =
       all_swap (λ u v. not (R u.target v.target) ≡ true → Fails R b u v.target) b.branches
       (λ u. all_unfiltered (λ v. Fails R b u v.target) _ b.branches (own u)) in
-      sum_by_kept_le _ _ _ b.branches (All-weaker _ _ (λ v f k.
+      sum_by_filter_le _ _ _ b.branches (All-weaker _ _ (λ v f k.
       elim (cases_Bool (list_any (λ u. R u.target v.target) U)) [
         | inl y ↦ y
         | inr n ↦
@@ -119,7 +119,7 @@ module _ (m : Model) (T : List Line) (R : Relation) (a b : Step) (e j : ℕ)
 
   part_passed : 0 < total a → total a ≤ 1000000000 → Passed m T a e the_part
   part_passed pos small =
-      let le : mass (cut R a b) ≤ total a = sum_by_kept_part _ _ a.branches in
+      let le : mass (cut R a b) ≤ total a = sum_by_filter_part _ _ a.branches in
       record {
         named = s.named;
         ranged = grind (arith, nat_tests);

@@ -71,14 +71,14 @@ sum_swap f (x ∷ xs) ys =
     ap (λ n. sum_of (f x) ys + n) (sum_swap f xs ys) ∙ sym (sum_add (f x) (λ y. sum_of (λ x. f x y) xs) ys)
 
 -- a filter keeps no more than a wider one
-pub sum_by_kept_le : {X : Type 0} (f : X → ℕ) (p q : X → Bool) (xs : List X)
+pub sum_by_filter_le : {X : Type 0} (f : X → ℕ) (p q : X → Bool) (xs : List X)
     → All (λ x. p x ≡ true → q x ≡ true) xs → sum_by f (filter p xs) ≤ sum_by f (filter q xs)
-sum_by_kept_le f p q xs h =
+sum_by_filter_le f p q xs h =
     rw (sum_by_is f (filter p xs), sum_by_is f (filter q xs), sum_filter f p xs, sum_filter f q xs)
     (sum_le _ _ xs (All-weaker _ _ (λ x k. cond_le (p x) (q x) (f x) k) xs h))
 
-pub sum_by_kept_part : {X : Type 0} (f : X → ℕ) (p : X → Bool) (xs : List X) → sum_by f (filter p xs) ≤ sum_by f xs
-sum_by_kept_part f p xs = omega (arith, sum_by-filter_both p (λ x. not (p x)) (λ x. refl) f xs)
+pub sum_by_filter_part : {X : Type 0} (f : X → ℕ) (p : X → Bool) (xs : List X) → sum_by f (filter p xs) ≤ sum_by f xs
+sum_by_filter_part f p xs = omega (arith, sum_by-filter_both p (λ x. not (p x)) (λ x. refl) f xs)
 
 -- how many pass, of two tests of which the second passes all that the first does, and one element more
 pub count_by_lt : {X : Type 0} (p q : X → Bool) (xs : List X)

@@ -26,12 +26,14 @@ MatchExact =
     (R : Relation) (a b : Step) → rising 0 a.branches ≡ true → rising 0 b.branches ≡ true
     → (matches R a b ≡ true → Matches (Holds R) a b) × (Matches (Holds R) a b → matches R a b ≡ true)
 
--- The cut is of greatest surplus. Every set of branches of greatest surplus has all of its targets, so it is at least as
--- large, and it is the cut where it is as large: there is only one smallest set of greatest surplus.
+-- The cut is of greatest surplus. No set of branches, which is what some test keeps, is of a greater one, and a set of as
+-- great a surplus has all targets of the cut: so it is at least as large as the cut, and where it is as large, it is the cut.
+-- So there is only one smallest set of greatest surplus.
 abbrev pub CutExact : Type 0
 CutExact =
     (R : Relation) (a b : Step) → rising 0 a.branches ≡ true
     → (surplus R a b (cut R a b) ≡ most R a b)
+    × ((keep : Branch → Bool) → surplus R a b (filter keep a.branches) ≤ most R a b)
     × ((keep : Branch → Bool) → surplus R a b (filter keep a.branches) ≡ most R a b
     → AllByRecursion (λ u. has_target u.target (cut R a b) ≡ true → keep u ≡ true) a.branches
     × (length (cut R a b) ≤ length (filter keep a.branches))

@@ -18,15 +18,17 @@ pub record Bisimulation (m : Model) (R : ℕ → ℕ → Type 0) : Type 0 where
 -- the test for a met pair
 abbrev pub met : Model → Relation → ℕ → ℕ → Bool
 met m R s t =
-    list_all (λ a. list_any (λ b. matches R a b) (steps_of m t)) (steps_of m s) && list_all (λ b. list_any (λ a. matches R a b) (steps_of m s)) (steps_of m t)
+    list_all (λ a. list_any (λ b. matches R a b) (steps_of m t)) (steps_of m s)
+    && list_all (λ b. list_any (λ a. matches R a b) (steps_of m s)) (steps_of m t)
 
 abbrev pub states : Model → List ℕ
 states m = range_with_len 0 (count m)
 
--- A table, read as a function, and the other way round: so that each stage is computed once.
+-- A table, read as a function, with d past its end.
 abbrev pub read : {X : Type 0} → X → List (List X) → ℕ → ℕ → X
 read d rows s t = slice_index_or (slice_index_or rows s []) t d
 
+-- A function on the model's states as it is read from its table: so that each stage is computed once.
 abbrev pub tabled : {X : Type 0} → Model → X → (ℕ → ℕ → X) → ℕ → ℕ → X
 tabled m d f = read d (map (λ s. map (f s) (states m)) (states m))
 
@@ -43,6 +45,7 @@ stage m (suc k) = narrowed m (stage m k)
 abbrev pub Levels : Type 0
 Levels = ℕ → ℕ → ℕ
 
+-- the pairs that no round parted
 abbrev pub unparted : Levels → Relation
 unparted L s t = L s t == 0
 
@@ -50,14 +53,15 @@ unparted L s t = L s t == 0
 abbrev pub before : Levels → ℕ → Relation
 before L d s t = (L s t == 0) || nat_le d (L s t)
 
--- round r + 1
+-- The levels after one round more: round r + 1 parts the pairs that stood together and are not met.
 abbrev pub refined : Model → ℕ → Levels → Levels
 refined m r L = tabled m 0 (λ s t. cond (unparted L s t && not (met m (unparted L) s t)) (r + 1) (L s t))
 
+-- the levels after r rounds
 abbrev pub levels : Model → ℕ → Levels
 levels m zero = tabled m 0 (λ s t. 0)
 levels m (suc r) = refined m r (levels m r)
 
--- after r rounds: at least one was made, and the last one parted nothing
+-- At least one of r rounds was made, and the last one parted nothing.
 abbrev pub settled : Model → ℕ → Levels → Bool
 settled m r L = nat_lt 0 r && list_all (λ s. list_all (λ t. not (L s t == r)) (states m)) (states m)

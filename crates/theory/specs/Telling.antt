@@ -8,6 +8,7 @@ use Rattle.theory.specs.Stages.{Levels, before, states}
 use Rattle.theory.specs.Sentences.{all_of, any_of, Line, not_of, step_to}
 use Rattle.theory.specs.declared.Part.{Part}
 
+-- two states, the smaller first
 pub record Pair : Type 0 where
   pub small : ℕ
   pub large : ℕ
@@ -22,9 +23,11 @@ same_pair x y = (x.small == y.small) && (x.large == y.large)
 abbrev pub unmatched : Model → Relation → ℕ → ℕ → ℕ
 unmatched m R s t = position_or_len (λ a. not (list_any (λ b. matches R a b) (steps_of m t))) (steps_of m s)
 
+-- whether the smaller state has a step that matches no step of the larger
 abbrev pub small_moves : Model → Relation → Pair → Bool
 small_moves m R q = nat_lt (unmatched m R q.small q.large) (length (steps_of m q.small))
 
+-- the state that has such a step, the smaller where both have one, and the other state
 abbrev pub mover : Model → Relation → Pair → ℕ
 mover m R q = cond (small_moves m R q) q.small q.large
 
@@ -48,6 +51,7 @@ abbrev pub refers : Model → Relation → Pair → List Pair
 refers m R q =
     flat_map (λ b. flat_map (λ u. map (λ v. pair u.target v.target) (apart R u b)) (cut R (move m R q) b)) (rivals m R q)
 
+-- the round that parted a pair
 abbrev pub level_of : Levels → Pair → ℕ
 level_of L q = L q.small q.large
 
@@ -89,6 +93,7 @@ line_for (x ∷ xs) u v = cond (same_pair x.of (pair u v)) (cond (x.holds_in == 
 abbrev pub apart_lines : List Place → Relation → List Branch → Step → List Line
 apart_lines places R U b = map (λ u. all_of (map (λ v. line_for places u.target v.target) (apart R u b))) U
 
+-- lines, and the parts of a step-line that name some of them
 pub record Block : Type 0 where
   pub lines : List Line
   pub parts : List Part
@@ -111,10 +116,12 @@ pair_lines m L places i q =
     let block : Block = against places R (move m R q) i (rivals m R q) in
     block.lines ++ step_to (move m R q).action block.parts ∷ not_of (i + length block.lines + 1) ∷ []
 
+-- the lines so far, and where those of each pair stand
 pub record Written : Type 0 where
   pub lines : List Line
   pub places : List Place
 
+-- the lines of one pair after another
 abbrev pub written : Model → Levels → List Place → List Line → List Pair → Written
 written m L places lines [] = record { lines = lines; places = places }
 written m L places lines (q ∷ qs) =
@@ -122,6 +129,7 @@ written m L places lines (q ∷ qs) =
     let place : Place = record { of = q; number = length lines + length new - 1; holds_in = mover m (until L q) q } in
     written m L (place ∷ places) (lines ++ new) qs
 
+-- The sentence for s and t: the lines of the pairs that it needs, and one line that names the line for s and t.
 abbrev pub sentence : Model → ℕ → Levels → ℕ → ℕ → List Line
 sentence m r L s t =
     let w : Written = written m L [] [] (needed m r L s t) in
