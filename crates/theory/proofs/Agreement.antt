@@ -37,7 +37,8 @@ module _ (m : Model) (law : lawful m ≡ true) where
     named_invariant : (is : List ℕ) (k s t : ℕ)
         → greatest (map depth_of is) ≤ k → stage m k s t ≡ true → All (λ i. set_of sets i s ≡ set_of sets i t) is
     named_invariant is k s t l h =
-        All-weaker _ _ (λ i le. invariant_deeper (depth_of i) k (set_of sets i) (omega arith) (invariant (i - 1)) s t h) is (greatest_bounds depth_of is)
+        All-weaker _ _ (λ i le. invariant_deeper (depth_of i) k (set_of sets i) (omega arith) (invariant (i - 1)) s t h) is
+        (greatest_bounds depth_of is)
 
     module _ (act : ℕ) (qs : List Part) (g : ℕ) (deep : All (λ q. depth_of q.line ≤ g) qs) where
       abbrev passes : Step → Bool

@@ -28,6 +28,9 @@ module _ (R : Relation) (a b : Step) where
   surplus_le_most : All (λ U. surplus R a b U ≤ most R a b) (parts a.branches)
   surplus_le_most = greatest_bounds (surplus R a b) (parts a.branches)
 
+  no_larger : (p : Branch → Bool) → surplus R a b (filter p a.branches) ≤ most R a b
+  no_larger p = part_filter _ p a.branches surplus_le_most
+
   -- some set is of greatest surplus
   best_exists : Rising a.branches → (p : Branch → Bool) × Best p
   best_exists rises =
@@ -43,7 +46,7 @@ module _ (R : Relation) (a b : Step) where
             absurd (omega arith)
         | inr fails ↦
             let r : (p : Branch → Bool) × (test (filter p a.branches) ≡ false) = filter_fails test a.branches rises fails in
-            (r.0, omega (arith, ltb-false _ _ r.1, part_filter _ r.0 a.branches surplus_le_most))
+            (r.0, omega (arith, ltb-false _ _ r.1, no_larger r.0))
       ]
 
   -- two sets of greatest surplus meet in one
@@ -51,17 +54,16 @@ module _ (R : Relation) (a b : Step) where
   best_meet p q bp bq =
       let s : Branch → ℕ = λ u. u.weight * total b in
       let e : Branch → ℕ = λ v. v.weight * total a in
-      let is : (p : Branch → Bool) → surplus R a b (filter p a.branches) ≡ sum_of s (filter p a.branches) - demand R b.branches e (filter p a.branches) =
-      λ p. surplus_is R a b (filter p a.branches) in
-      let under : (p : Branch → Bool) → surplus R a b (filter p a.branches) ≤ most R a b = λ p. part_filter _ p a.branches surplus_le_most in
+      let K : (Branch → Bool) → List Branch = λ p. filter p a.branches in
+      let is : (p : Branch → Bool) → surplus R a b (K p) ≡ sum_of s (K p) - demand R b.branches e (K p) = λ p. surplus_is R a b (K p) in
       omega (
         arith,
         is p,
         is q,
         is (union p q),
         is (meet p q),
-        under (union p q),
-        under (meet p q),
+        no_larger (union p q),
+        no_larger (meet p q),
         sum_modular p q s a.branches,
         demand_submodular R b.branches e p q a.branches,
         bp,
@@ -104,23 +106,21 @@ module _ (R : Relation) (a b : Step) where
       ap (surplus R a b) same
       ∙ best_common r.0 r.1 (parts a.branches) (parts_are_filtered a.branches rises) surplus_le_most
 
-  cut_in_best : (p : Branch → Bool) → Best p → Rising a.branches → All (λ u. among (cut R a b) u ≡ true → p u ≡ true) a.branches
-  cut_in_best p bp rises =
-      all_both _ _ _ (λ u e g t. g (sym e ∙ t)) a.branches
-      (among_filter (common (parts a.branches)) a.branches rises) (common_in_best p bp rises)
-
-  -- so it has at least as many elements, and those of the cut where it has as many
-  cut_least : (p : Branch → Bool) → Best p → Rising a.branches
-      → (length (cut R a b) ≤ length (filter p a.branches))
+  -- so it has all targets of the cut, as many elements at least, and those of the cut where it has as many
+  cut_smallest : (p : Branch → Bool) → Best p → Rising a.branches
+      → All (λ u. among (cut R a b) u ≡ true → p u ≡ true) a.branches
+      × (length (cut R a b) ≤ length (filter p a.branches))
       × (length (filter p a.branches) ≡ length (cut R a b) → filter p a.branches ≡ cut R a b)
-  cut_least p bp rises = filter_least (common (parts a.branches)) p a.branches (common_in_best p bp rises)
+  cut_smallest p bp rises =
+      let c : Branch → Bool = common (parts a.branches) in
+      let inside : All (λ u. c u ≡ true → p u ≡ true) a.branches = common_in_best p bp rises in
+      let least = filter_least c p a.branches inside in
+      (all_both _ _ _ (λ u e g t. g (sym e ∙ t)) a.branches (among_filter c a.branches rises) inside, least.0, least.1)
 
 pub cut_exact : CutExact
 cut_exact R a b rise =
     let rises : Rising a.branches = rising_is a.branches rise in
-    let largest = λ (keep : Branch → Bool). part_filter (λ U. surplus R a b U ≤ most R a b) keep a.branches (surplus_le_most R a b) in
-    let smallest = cut_least R a b in
-    (cut_best R a b rises, largest, λ keep best. (cut_in_best R a b keep best rises, (smallest keep best rises).0, (smallest keep best rises).1))
+    (cut_best R a b rises, no_larger R a b, λ keep best. cut_smallest R a b keep best rises)
 
 -- where a and b have one action and do not match, the cut outweighs what it stands to
 pub cut_outweighs : (R : Relation) (a b : Step) → rising 0 a.branches ≡ true

@@ -32,5 +32,6 @@ sound_step n z a small h =
 pub steps_are_sound : (m : Model) → lawful m ≡ true → (s : ℕ) → All (SoundStep (count m)) (steps_of m s)
 steps_are_sound m law s =
     let laws = lawful_parts m law in
-    let rows = All-weaker _ (All (SoundStep (count m))) (λ row r. All-weaker _ _ (λ a h. sound_step (count m) m.z a laws.totals h) row r.1) m.states laws.rows in
+    let sound : (a : Step) → LawfulStep (count m) m.z a → SoundStep (count m) a = λ a h. sound_step (count m) m.z a laws.totals h in
+    let rows = All-weaker _ (All (SoundStep (count m))) (λ row r. All-weaker _ _ sound row r.1) m.states laws.rows in
     all_at (All (SoundStep (count m))) m.states s [] rows tt

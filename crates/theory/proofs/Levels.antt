@@ -126,7 +126,7 @@ module _ (m : Model) (law : lawful m ≡ true) where
       elim (level_is r s t l.0 l.1) [
         | Together e here ↦ absurd (omega arith)
         | Parted j e low here past ↦
-            let same = met_same m law (before (levels m r) (suc j)) (stage m j) (λ u v lu lv. before_is_stage r j u v (omega arith) lu lv) s t in
+            let same = met_same m law (before (levels m r) (suc j)) (stage m j) (λ u v. before_is_stage r j u v (omega arith)) s t in
             grind (arith, stage_up m law j s t)
       ]
 

@@ -117,7 +117,8 @@ module _ (m : Model) (ls : List Line) where
       let x_takes : list_any takes (steps_of m x) ≡ true =
       any_true takes (steps_of m x) (some_weaker _ _ (λ b i. grind (arith, nat_tests)) (steps_of m x) here) in
       let y_fails : list_any takes (steps_of m y) ≡ false =
-      any_false takes (steps_of m y) (All-weaker _ _ (λ b f. grind (arith, all_false (part_holds (sets_of m ls) b) qs)) (steps_of m y) no_other) in
+      any_false takes (steps_of m y)
+      (All-weaker _ _ (λ b f. grind (arith, all_false (part_holds (sets_of m ls) b) qs)) (steps_of m y) no_other) in
       record {
         fits = and_from _ _ (named_fit ls e js named) (and_from _ _ small (all_true _ qs (All-weaker _ _ (λ q p. p.ranged) qs h)));
         says = says_push m ls (step_to a.action qs) (Only x) (Only y) (e + 1)

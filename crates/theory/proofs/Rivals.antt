@@ -70,7 +70,8 @@ record Lined (m : Model) (R : Relation) (b : Step) (e i : ℕ) (T : List Line) (
 
 apart_lines_say : (m : Model) (places : List Place) (R : Relation) (b : Step) (e : ℕ) (U : List Branch) (ls : List Line) (i : ℕ)
     → i ≡ length ls → Formed ls → All (Referred m ls places R b e) U → Lined m R b e i (ls ++ apart_lines places R U b) U
-apart_lines_say m places R b e [] ls i is f h = record { formed = rw (append-nil ls) f; long = rw (append-nil ls) (omega arith); along = tt }
+apart_lines_say m places R b e [] ls i is f h =
+    record { formed = rw (append-nil ls) f; long = rw (append-nil ls) (omega arith); along = tt }
 apart_lines_say m places R b e (u ∷ U) ls i is f h =
     let l : Line = all_of (map (λ v. line_for places u.target v.target) (apart R u b)) in
     let p : Pushed m ls l (Only u.target) (Fails R b u) e = push_all m ls _ (λ v. v.target) u.target e (apart R u b) h.0 in

@@ -18,16 +18,22 @@ module _ {ls : List Line} {e j : ℕ} (more : List Line) (n : Named ls e j) wher
 
   pub named_grown : Named (ls ++ more) e j
   named_grown =
-      record { low = n.low; high = omega (arith, length-append ls more, n.high); shallow = rw (depths_grown ls more (j - 1) (omega (arith, n.low, n.high))) n.shallow }
+      record {
+        low = n.low;
+        high = omega (arith, length-append ls more, n.high);
+        shallow = rw (depths_grown ls more (j - 1) (omega (arith, n.low, n.high))) n.shallow;
+      }
 
 module _ (ls : List Line) (l : Line) where
   set_last : (m : Model) → set_of (sets_of m (ls ++ l ∷ [])) (length ls + 1) ≡ line_holds m (sets_of m ls) l
   set_last m =
-      rw (sets_push m ls l) (get_or_push (sets_of m ls) (line_holds m (sets_of m ls) l) nowhere (length ls + 1 - 1) (omega (arith, length_sets m ls)))
+      rw (sets_push m ls l)
+      (get_or_push (sets_of m ls) (line_holds m (sets_of m ls) l) nowhere (length ls + 1 - 1) (omega (arith, length_sets m ls)))
 
   depth_last : get_or (depths_of (ls ++ l ∷ [])) (length ls + 1 - 1) 0 ≡ line_depth (depths_of ls) l
   depth_last =
-      rw (depths_push ls l) (get_or_push (depths_of ls) (line_depth (depths_of ls) l) 0 (length ls + 1 - 1) (omega (arith, length_depths ls)))
+      rw (depths_push ls l)
+      (get_or_push (depths_of ls) (line_depth (depths_of ls) l) 0 (length ls + 1 - 1) (omega (arith, length_depths ls)))
 
 abbrev pub Formed : List Line → Type 0
 Formed ls = well_formed_from 0 ls ≡ true

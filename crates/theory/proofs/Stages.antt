@@ -34,8 +34,13 @@ module _ (m : Model) (law : lawful m ≡ true) where
       record {
         inside = λ s t h. eq.inside s t (parts s t h).0;
         itself = λ s l. narrowed_from m R s s l l (eq.itself s l) (met_itself m law R eq.itself s);
-        mirror = λ s t h. grind (arith, parts s t, eq.inside s t, eq.mirror s t, met_back m law R (λ u v lu lv. eq.mirror u v) s t, narrowed_from m R t s);
-        through = λ s t u h g. grind (arith, parts s t, parts t u, eq.inside s t, eq.inside t u, eq.through s t u, met_through m law R eq.through s t u, narrowed_from m R s u);
+        mirror = λ s t h.
+            let back = met_back m law R (λ u v lu lv. eq.mirror u v) s t in
+            grind (arith, parts s t, eq.inside s t, eq.mirror s t, back, narrowed_from m R t s);
+        through = λ s t u h g.
+            let meets = met_through m law R eq.through s t u in
+            let join = eq.through s t u in
+            grind (arith, parts s t, parts t u, eq.inside s t, eq.inside t u, join, meets, narrowed_from m R s u);
       }
 
   stage_first : Equivalence m (stage m 0)
@@ -72,7 +77,8 @@ module _ (m : Model) (law : lawful m ≡ true) where
 
   -- a round that parts nothing is followed by such rounds
   pub stable_next : (k : ℕ) → Stable m k → Stable m (suc k)
-  stable_next k h s t e = stage_up (suc k) s t e (met_wider m law (stage m k) (stage m (suc k)) (λ u v lu lv r. h u v r) s t (stage_met k s t e))
+  stable_next k h s t e =
+      stage_up (suc k) s t e (met_wider m law (stage m k) (stage m (suc k)) (λ u v lu lv. h u v) s t (stage_met k s t e))
 
 pub stages_exact : StagesExact
 stages_exact m law k =

@@ -45,7 +45,8 @@ pub depths_push : (ls : List Line) (l : Line) → depths_of (ls ++ l ∷ []) ≡
 depths_push = run_push line_depth depths_from (λ _. refl) (λ _ _ _. refl) []
 
 -- the sets and depths of lines last as the text grows
-pub sets_grown : (m : Model) (ls more : List Line) (j : ℕ) → j < length ls → get_or (sets_of m (ls ++ more)) j nowhere ≡ get_or (sets_of m ls) j nowhere
+pub sets_grown : (m : Model) (ls more : List Line) (j : ℕ)
+    → j < length ls → get_or (sets_of m (ls ++ more)) j nowhere ≡ get_or (sets_of m ls) j nowhere
 sets_grown m ls more j h =
     rw (run_append (line_holds m) (sets_from m) (λ _. refl) (λ _ _ _. refl) [] ls more)
     (run_keeps (line_holds m) (sets_from m) (λ _. refl) (λ _ _ _. refl) nowhere j (sets_of m ls) more (omega (arith, length_sets m ls)))
