@@ -1,5 +1,31 @@
--- Lemmas on sentences, and the laws. Assumes nothing.
+-- The proofs in their order: lists, sentences, matching, stages, the sentence that tells. Each builds on those above it. Assumes nothing.
 pub mod Tests
+pub mod Elements
+pub mod Counting
 pub mod Texts
 pub mod Meanings
 pub mod Induction
+pub mod Sums
+pub mod Parts
+pub mod Demand
+pub mod Hall
+pub mod Surplus
+pub mod Weights
+pub mod Cuts
+pub mod Lawful
+pub mod Dominance
+pub mod Tables
+pub mod Meeting
+pub mod Stages
+pub mod Levels
+pub mod Settled
+pub mod Rounds
+pub mod Agreement
+pub mod Saying
+pub mod Lines
+pub mod Pairs
+pub mod Movers
+pub mod Rivals
+pub mod Places
+pub mod Needed
+pub mod Telling

@@ -10,7 +10,7 @@ use Rattle.theory.specs.Laws.{LinesMean}
 use Rattle.theory.specs.Sentences.{all_of, any_of, Line, not_of, StateSet, step_to, depth_at, depths_from, depths_of, fits_after, line_depth}
 use Rattle.theory.specs.Sentences.{line_holds, names, nowhere, own_depth, part_holds, set_of, sets_from, sets_of, well_formed_from}
 use Rattle.theory.specs.declared.Part.{Part}
-use Rattle.theory.proofs.Tests.{all_always, all_same, all_unmap, any_same, map_same, share_same}
+use Rattle.theory.proofs.Tests.{all_same, any_same, map_same, share_same, all_always, all_unmap}
 use Rattle.theory.proofs.Texts.{names_between, run_keeps}
 
 -- Where a line holds depends on the sets of the lines that it names only, and at a state of some that steps do not leave

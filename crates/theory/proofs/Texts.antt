@@ -8,7 +8,7 @@ use Rattle.model.specs.Model.{Model}
 use Rattle.model.proofs.Greatest.{greatest_least}
 use Rattle.model.proofs.Tests.{all_at, each_true}
 use Rattle.theory.specs.Sentences.{all_of, any_of, Line, not_of, step_to, depth_at, depths_from, depths_of, fits_after, in_range, line_depth}
-use Rattle.theory.specs.Sentences.{line_holds, names, one_of_first, own_depth, sets_from, sets_of, well_formed_from}
+use Rattle.theory.specs.Sentences.{line_holds, names, nowhere, one_of_first, own_depth, sets_from, sets_of, well_formed_from}
 use Rattle.theory.proofs.Tests.{all_always}
 
 -- a run over a list that pushes one value for each element
@@ -43,6 +43,18 @@ sets_push m = run_push (line_holds m) (sets_from m) (λ _. refl) (λ _ _ _. refl
 
 pub depths_push : (ls : List Line) (l : Line) → depths_of (ls ++ l ∷ []) ≡ depths_of ls ++ line_depth (depths_of ls) l ∷ []
 depths_push = run_push line_depth depths_from (λ _. refl) (λ _ _ _. refl) []
+
+-- the sets and depths of lines last as the text grows
+pub sets_grown : (m : Model) (ls more : List Line) (j : ℕ)
+    → j < length ls → get_or (sets_of m (ls ++ more)) j nowhere ≡ get_or (sets_of m ls) j nowhere
+sets_grown m ls more j h =
+    rw (run_append (line_holds m) (sets_from m) (λ _. refl) (λ _ _ _. refl) [] ls more)
+    (run_keeps (line_holds m) (sets_from m) (λ _. refl) (λ _ _ _. refl) nowhere j (sets_of m ls) more (omega (arith, length_sets m ls)))
+
+pub depths_grown : (ls more : List Line) (j : ℕ) → j < length ls → get_or (depths_of (ls ++ more)) j 0 ≡ get_or (depths_of ls) j 0
+depths_grown ls more j h =
+    rw (run_append line_depth depths_from (λ _. refl) (λ _ _ _. refl) [] ls more)
+    (run_keeps line_depth depths_from (λ _. refl) (λ _ _ _. refl) 0 j (depths_of ls) more (omega (arith, length_depths ls)))
 
 -- a line that may stand behind i others names some of them
 pub names_between : (i : ℕ) (l : Line) → fits_after i l ≡ true → All (λ j. (0 < j) × (j ≤ i)) (names l)

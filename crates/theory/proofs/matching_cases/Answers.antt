@@ -1,0 +1,6 @@
+-- The cases compute. Assumes nothing.
+use Rattle.std.proofs.Common.{refl}
+use Rattle.theory.proofs.matching_cases.Goals as goal
+
+pub returns : goal.returns
+returns c = refl
