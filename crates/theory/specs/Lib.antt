@@ -1,3 +1,4 @@
--- Sentences, where they hold and how deep they are; and the laws that are proved of them. Assumes nothing.
+-- Sentences, where they hold and how deep they are; when steps match; and the laws that are proved of both. Assumes nothing.
 pub mod Sentences
+pub mod Matching
 pub mod Laws
