@@ -14,29 +14,45 @@ use Rattle.matching.proofs.Steps.{branches_mass}
 use Rattle.matching.proofs.Sums.{Sum, sum_by_at, sum_part, sum_same, sum_scaled}
 use Rattle.matching.proofs.Tables.{column}
 
--- A flow between targets: the weights ws of one step and vs of the other, the amounts A, the supplies S with what is unsent,
--- U, and the demands D with the room, M.
-pub record Flowing (R : Relation) (n : ℕ) (ws vs : List ℕ) (A : List (List ℕ)) (S U D M : List ℕ) : Type 0 where
-  pub left : length ws ≡ n
-  pub right : length vs ≡ n
-  pub high : length A ≡ n
-  pub wide : (r : ℕ) → r < n → length (get_or A r []) ≡ n
-  pub supply : (r : ℕ) → get_or S r 0 ≡ get_or ws r 0 * sum vs
-  pub demand : (c : ℕ) → get_or D c 0 ≡ get_or vs c 0 * sum ws
-  pub sends : (r : ℕ) → sum (get_or A r []) + get_or U r 0 ≡ get_or S r 0
-  pub receives : (c : ℕ) → column A c + get_or M c 0 ≡ get_or D c 0
-  pub carries : (r c : ℕ) → 0 < amount A r c → allows R S D r c ≡ true
+-- Two steps, by their actions and the weights of their targets, and a flow between them: the amounts, the supplies and what of
+-- them is unsent, the demands and the room that is left of them.
+pub record Net : Type 0 where
+  pub from_action : ℕ
+  pub to_action : ℕ
+  pub from : List ℕ
+  pub to : List ℕ
+  pub amounts : List (List ℕ)
+  pub supply : List ℕ
+  pub unsent : List ℕ
+  pub demand : List ℕ
+  pub room : List ℕ
+
+-- whether the pair of a row and a column may carry anything
+abbrev pub may_carry : Relation → Net → ℕ → ℕ → Bool
+may_carry R t r c = allows R t.supply t.demand r c
+
+-- what holds of a flow over n targets
+pub record Flowing (R : Relation) (n : ℕ) (t : Net) : Type 0 where
+  pub left : length t.from ≡ n
+  pub right : length t.to ≡ n
+  pub high : length t.amounts ≡ n
+  pub wide : (r : ℕ) → r < n → length (get_or t.amounts r []) ≡ n
+  pub supply : (r : ℕ) → get_or t.supply r 0 ≡ get_or t.from r 0 * sum t.to
+  pub demand : (c : ℕ) → get_or t.demand c 0 ≡ get_or t.to c 0 * sum t.from
+  pub sends : (r : ℕ) → sum (get_or t.amounts r []) + get_or t.unsent r 0 ≡ get_or t.supply r 0
+  pub receives : (c : ℕ) → column t.amounts c + get_or t.room c 0 ≡ get_or t.demand c 0
+  pub carries : (r c : ℕ) → 0 < amount t.amounts r c → may_carry R t r c ≡ true
 
 -- rows P and columns Q that no way leaves, with all that is unsent
-pub record Shut (R : Relation) (A : List (List ℕ)) (S U D : List ℕ) (P Q : ℕ → Bool) : Type 0 where
-  pub start : (r : ℕ) → 0 < get_or U r 0 → P r ≡ true
-  pub along : (r c : ℕ) → P r ≡ true → allows R S D r c ≡ true → Q c ≡ true
-  pub back : (r c : ℕ) → Q c ≡ true → 0 < amount A r c → P r ≡ true
+pub record Shut (R : Relation) (t : Net) (P Q : ℕ → Bool) : Type 0 where
+  pub start : (r : ℕ) → 0 < get_or t.unsent r 0 → P r ≡ true
+  pub along : (r c : ℕ) → P r ≡ true → may_carry R t r c ≡ true → Q c ≡ true
+  pub back : (r c : ℕ) → Q c ≡ true → 0 < amount t.amounts r c → P r ≡ true
 
--- the parts of what an allowed pair says
-pub record Allowed (R : Relation) (ws vs : List ℕ) (r c : ℕ) : Type 0 where
-  pub from : 0 < get_or ws r 0
-  pub to : 0 < get_or vs c 0
+-- what it says that a pair may carry something
+pub record Allowed (R : Relation) (t : Net) (r c : ℕ) : Type 0 where
+  pub from : 0 < get_or t.from r 0
+  pub to : 0 < get_or t.to c 0
   pub related : R r c ≡ true
 
 -- a place with a weight is one of the list's
@@ -54,14 +70,35 @@ factor a b n e pos =
       | inr none ↦ let z : a ≡ 0 = omega arith in absurd (omega (arith, rw z at e))
     ]
 
-module _ (R : Relation) (n x y : ℕ) (ws vs : List ℕ) (A : List (List ℕ)) (S U D M : List ℕ) (f : Flowing R n ws vs A S U D M) where
+module _ (R : Relation) (n : ℕ) (t : Net) (f : Flowing R n t) where
+  abbrev ws : List ℕ
+  ws = t.from
+
+  abbrev vs : List ℕ
+  vs = t.to
+
+  abbrev A : List (List ℕ)
+  A = t.amounts
+
+  abbrev S : List ℕ
+  S = t.supply
+
+  abbrev U : List ℕ
+  U = t.unsent
+
+  abbrev D : List ℕ
+  D = t.demand
+
+  abbrev M : List ℕ
+  M = t.room
+
   abbrev pub a : Step
-  a = record { action = x; branches = branches_from 0 ws }
+  a = record { action = t.from_action; branches = branches_from 0 ws }
 
   abbrev pub b : Step
-  b = record { action = y; branches = branches_from 0 vs }
+  b = record { action = t.to_action; branches = branches_from 0 vs }
 
-  pub allowed : (r c : ℕ) → allows R S D r c ≡ true → Allowed R ws vs r c
+  pub allowed : (r c : ℕ) → may_carry R t r c ≡ true → Allowed R t r c
   allowed r c h =
       let p = and_parts (ltb 0 (get_or S r 0)) (ltb 0 (get_or D c 0) && R r c) h in
       let q = and_parts (ltb 0 (get_or D c 0)) (R r c) p.1 in
@@ -100,7 +137,7 @@ module _ (R : Relation) (n x y : ℕ) (ws vs : List ℕ) (A : List (List ℕ)) (
       ap (λ k. mass (kept (H P) (branches_from 0 vs)) * k) (branches_mass ws 0) ∙ part_of (H P) vs D n (sum ws) f.right f.demand in
       ap (λ x. x - mass (kept (H P) (branches_from 0 vs)) * total a) out ∙ ap (λ x. Part n P (λ r. get_or S r 0) - x) come
 
-  pub stands : (P : ℕ → Bool) (r c : ℕ) → P r ≡ true → allows R S D r c ≡ true → H P c ≡ true
+  pub stands : (P : ℕ → Bool) (r c : ℕ) → P r ≡ true → may_carry R t r c ≡ true → H P c ≡ true
   stands P r c p h =
       let k = allowed r c h in
       any_kept (λ u. R u c) P ws 0 r r (omega arith) k.from p k.related
@@ -145,7 +182,7 @@ module _ (R : Relation) (n x y : ℕ) (ws vs : List ℕ) (A : List (List ℕ)) (
         related = each_all _ ws (λ r p. each_all _ vs (λ c q pos. (allowed r c (f.carries r c pos)).related));
       }
     where
-      no_amount : (r c : ℕ) → (Allowed R ws vs r c → ⊥) → amount A r c ≡ 0
+      no_amount : (r c : ℕ) → (Allowed R t r c → ⊥) → amount A r c ≡ 0
       no_amount r c h =
           elim (cases_lt 0 (amount A r c)) [
             | inl pos ↦ absurd (h (allowed r c (f.carries r c pos)))

@@ -13,7 +13,7 @@ use Rattle.matching.specs.declared.marks.Marks.{Marks}
 use Rattle.matching.specs.declared.step.held.HeldStep.{HeldStep}
 use Rattle.matching.specs.declared.task.shape.Task.{Task}
 use Rattle.matching.proofs.Cuts.{Closing, cut_branches, cut_members, matches_all, matches_not}
-use Rattle.matching.proofs.Duality.{Flowing, Left, weighs}
+use Rattle.matching.proofs.Duality.{Flowing, Left, Net, weighs}
 use Rattle.matching.proofs.Sums.{Sum, sum_by_at}
 
 -- the task of matching two steps
@@ -31,7 +31,21 @@ pub record Sized (n : ℕ) (l r : HeldStep) (f : Flow) : Type 0 where
   pub unsent : length f.unsent ≡ n
 
 module _ (R : Relation) (n : ℕ) (l r : HeldStep) (f : Flow) (m : Marks) (posed : Posed R l r f.task) (sized : Sized n l r f) (stuck : Stuck f 1 m) where
-  flowing : Flowing R n l.weights r.weights f.amounts f.task.supply f.unsent f.task.demand f.room
+  abbrev net : Net
+  net =
+      record {
+        from_action = l.action;
+        to_action = r.action;
+        from = l.weights;
+        to = r.weights;
+        amounts = f.amounts;
+        supply = f.task.supply;
+        unsent = f.unsent;
+        demand = f.task.demand;
+        room = f.room;
+      }
+
+  flowing : Flowing R n net
   flowing =
       record {
         left = sized.left;
@@ -45,7 +59,7 @@ module _ (R : Relation) (n : ℕ) (l r : HeldStep) (f : Flow) (m : Marks) (posed
         carries = λ u v pos. sym (posed.allowed u v) ∙ f.carries u v pos;
       }
 
-  closing : Closing R f.amounts f.task.supply f.unsent f.task.demand f.room (row_marked m) (column_marked m)
+  closing : Closing R net (row_marked m) (column_marked m)
   closing =
       record {
         shut = record {
@@ -60,7 +74,7 @@ module _ (R : Relation) (n : ℕ) (l r : HeldStep) (f : Flow) (m : Marks) (posed
       }
 
   abbrev rest : ℕ
-  rest = Left R n l.action r.action l.weights r.weights f.amounts f.task.supply f.unsent f.task.demand f.room flowing
+  rest = Left R n net flowing
 
   rest_is : rest ≡ sum f.unsent
   rest_is = ap (λ k. Sum k (λ u. get_or f.unsent u 0)) (sym sized.unsent) ∙ sym (sum_by_at (λ x. x) 0 f.unsent)
@@ -76,18 +90,18 @@ module _ (R : Relation) (n : ℕ) (l r : HeldStep) (f : Flow) (m : Marks) (posed
       let some = eqb-false (sum f.unsent) 0 (sum_by-zero (λ x. x) f.unsent ∙ h) in omega (arith, rest_is)
 
   pub do_match : spent ≡ true → l.action ≡ r.action → matches R (meaning l) (meaning r) ≡ true
-  do_match h = matches_all R n l.action r.action l.weights r.weights f.amounts f.task.supply f.unsent f.task.demand f.room flowing (row_marked m) (column_marked m) closing (nothing_left h)
+  do_match h = matches_all R n net flowing (row_marked m) (column_marked m) closing (nothing_left h)
 
   pub weights : spent ≡ true → Weights (Holds R) (meaning l) (meaning r) (amount f.amounts)
-  weights h = weighs R n l.action r.action l.weights r.weights f.amounts f.task.supply f.unsent f.task.demand f.room flowing (nothing_left h)
+  weights h = weighs R n net flowing (nothing_left h)
 
   pub do_not_match : spent ≡ false → matches R (meaning l) (meaning r) ≡ false
-  do_not_match h = matches_not R n l.action r.action l.weights r.weights f.amounts f.task.supply f.unsent f.task.demand f.room flowing (row_marked m) (column_marked m) closing (something_left h)
+  do_not_match h = matches_not R n net flowing (row_marked m) (column_marked m) closing (something_left h)
 
   pub is_cut : spent ≡ false → l.action ≡ r.action → IsCut R (meaning l) (meaning r) m.rows
   is_cut h same =
       record {
         action = same;
-        members = cut_members R n l.action r.action l.weights r.weights f.amounts f.task.supply f.unsent f.task.demand f.room flowing (row_marked m) (column_marked m) closing (something_left h);
-        branches = cut_branches R n l.action r.action l.weights r.weights f.amounts f.task.supply f.unsent f.task.demand f.room flowing (row_marked m) (column_marked m) closing (something_left h);
+        members = cut_members R n net flowing (row_marked m) (column_marked m) closing (something_left h);
+        branches = cut_branches R n net flowing (row_marked m) (column_marked m) closing (something_left h);
       }

@@ -3,14 +3,15 @@ ghost use Rattle.std.specs.Prelude.{◌≡◌, ℕ, ◌+◌, ◌-◌, ◌<◌, �
 ghost use Rattle.matching.specs.Tables.{amount, cell, put, Carries, Receives, Sends, Wide};
 
 use crate::task::Task;
+use model::STATES;
 
 /// Amounts sent so far, with what each row has not sent yet and what each column has room for.
 #[derive(Drop)]
 pub(crate) struct Flow {
     pub(crate) task: Task,
-    pub(crate) amounts: [[u64; 64]; 64],
-    pub(crate) unsent: [u64; 64],
-    pub(crate) room: [u64; 64],
+    pub(crate) amounts: [[u64; STATES]; STATES],
+    pub(crate) unsent: [u64; STATES],
+    pub(crate) room: [u64; STATES],
     ghost high: { length amounts ≡ 64 },
     ghost wide: { Wide amounts },
     ghost long: { length unsent ≡ 64 },
@@ -28,7 +29,7 @@ impl Flow {
         let room = task.demand;
         Flow {
             task,
-            amounts: [[0; 64]; 64],
+            amounts: [[0; STATES]; STATES],
             unsent,
             room,
         }

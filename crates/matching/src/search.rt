@@ -5,6 +5,7 @@ ghost use Rattle.matching.specs.Reach.{column_marked, row_marked, Blocked, Crowd
 
 use crate::flow::Flow;
 use crate::marks::Marks;
+use model::STATES;
 
 impl Flow {
     /// A column to which a row may send, with room for at least `least`: room is made where need be.
@@ -15,7 +16,7 @@ impl Flow {
         requires some { 0 < least }
         ensures { MatchOption result (Blocked self.old self.new least marks.old marks.new row) (λ c. Opened self.old self.new marks.old row least c) }
     {
-        for column in 0..64 {
+        for column in 0..STATES {
             if self.task.allowed[row][column] && !marks.columns[column] {
                 marks.columns[column] = true;
                 if self.make_room(marks, column, least) {
@@ -37,7 +38,7 @@ impl Flow {
         if self.room[column] >= least {
             return true;
         }
-        for row in 0..64 {
+        for row in 0..STATES {
             if !marks.rows[row] && self.amounts[row][column] >= least {
                 marks.rows[row] = true;
                 if let Some(to) = self.outlet(marks, row, least) {
@@ -55,10 +56,10 @@ impl Flow {
         ensures { MatchOption result (Sent self.old self.new) (λ marks. Ended self.old self.new least marks) }
     {
         let mut marks = Marks {
-            rows: [false; 64],
-            columns: [false; 64],
+            rows: [false; STATES],
+            columns: [false; STATES],
         };
-        for row in 0..64 {
+        for row in 0..STATES {
             if !marks.rows[row] && self.unsent[row] >= least {
                 marks.rows[row] = true;
                 if let Some(column) = self.outlet(&mut marks, row, least) {

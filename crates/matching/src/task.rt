@@ -4,6 +4,7 @@ ghost use Rattle.matching.specs.Tables.{allows, cell};
 
 use crate::relation::Relation;
 use crate::step::HeldStep;
+use model::STATES;
 
 mod shape;
 
@@ -20,8 +21,8 @@ impl Task {
     {
         let supply = left.scaled(right.total);
         let demand = right.scaled(left.total);
-        let mut allowed = [[false; 64]; 64];
-        for row in 0..64 {
+        let mut allowed = [[false; STATES]; STATES];
+        for row in 0..STATES {
             if supply[row] > 0 {
                 allowed[row] = related(row, &demand, relation);
             }
@@ -35,11 +36,11 @@ impl Task {
 }
 
 /// The columns to which a row stands, of those that are to receive something.
-fn related<R: Relation>(row: usize, demand: &[u64; 64], relation: &R) -> [bool; 64]
+fn related<R: Relation>(row: usize, demand: &[u64; STATES], relation: &R) -> [bool; STATES]
     ensures { (c : ℕ) → slice_index_or result c false ≡ (nat_lt 0 (slice_index demand.now c) && R.pairs relation.now row c) }
 {
-    let mut columns = [false; 64];
-    for column in 0..64 {
+    let mut columns = [false; STATES];
+    for column in 0..STATES {
         columns[column] = demand[column] > 0 && relation.relates(row, column);
     }
     columns
@@ -47,12 +48,12 @@ fn related<R: Relation>(row: usize, demand: &[u64; 64], relation: &R) -> [bool; 
 
 impl HeldStep {
     /// The weights, each times a total.
-    fn scaled(&self, total: u32) -> [u64; 64]
+    fn scaled(&self, total: u32) -> [u64; STATES]
         requires { total ≤ 1000000000 }
         ensures { (t : ℕ) → slice_index result t ≡ slice_index self.now.weights t * total }
     {
-        let mut scaled = [0; 64];
-        for target in 0..64 {
+        let mut scaled = [0; STATES];
+        for target in 0..STATES {
             scaled[target] = u64::from(self.weights[target]) * u64::from(total);
         }
         scaled
