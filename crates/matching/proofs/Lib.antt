@@ -1,0 +1,12 @@
+pub mod Steps
+pub mod Tables
+pub mod Sources
+pub mod Sums
+pub mod Balance
+pub mod Sets
+pub mod Duality
+pub mod Cuts
+pub mod Solving
+pub mod Flows
+pub mod Spreads
+pub mod Turns
