@@ -10,9 +10,9 @@ use Rattle.model.proofs.Greatest.{greatest_bounds, greatest_least}
 use Rattle.model.proofs.Tests.{all_true, each_true}
 use Rattle.theory.specs.Matching.{Relation, cut, has_target, matches, most, surplus}
 use Rattle.matching.specs.Steps.{branches_from}
-use Rattle.matching.specs.Tables.{allows, amount}
+use Rattle.matching.specs.Tables.{amount}
 use Rattle.matching.proofs.Balance.{Part, part_mono, tight, tight_back, tight_start}
-use Rattle.matching.proofs.Duality.{Net, may_carry, Flowing, H, Left, Shut, a, allowed, b, bounded, factor, inside, only, receives_at, sends_at, stands, surplus_parts}
+use Rattle.matching.proofs.Duality.{Net, may_carry, Flowing, H, Left, Shut, a, allowed, b, bounded, factor, only, place_of, receives_at, sends_at, stands, surplus_parts}
 use Rattle.matching.proofs.Sets.{any_kept, found, kept, kept_same, parts_each, parts_kept}
 use Rattle.matching.proofs.Steps.{weight_le}
 
@@ -147,12 +147,12 @@ module _ (R : Relation) (n : ℕ) (t : Net) (f : Flowing R n t) (p q : ℕ → B
         let alone = only R n t f P in
         record {
           start = λ i pos.
-              let l : i < n = inside ws i n f.left (factor (get_or ws i 0) (sum vs) (get_or S i 0) (f.supply i) (omega (arith, f.sends i))) in
+              let l : i < n = place_of R n t f ws i f.left (factor (get_or ws i 0) (sum vs) (get_or S i 0) (f.supply i) (omega (arith, f.sends i))) in
               tight_start n n (amount A) (λ r. get_or S r 0) (λ r. get_or U r 0) (λ c. get_or D c 0) (λ c. get_or M c 0) (sends_at R n t f) (receives_at R n t f) P (columns P) alone same i l pos;
           along = λ i j. stands R n t f P i j;
           back = λ i j h pos.
               let k = allowed R n t f i j (f.carries i j pos) in
-              tight_back n n (amount A) (λ r. get_or S r 0) (λ r. get_or U r 0) (λ c. get_or D c 0) (λ c. get_or M c 0) (sends_at R n t f) (receives_at R n t f) P (columns P) alone same i j (inside ws i n f.left k.from) (inside vs j n f.right k.to) h pos;
+              tight_back n n (amount A) (λ r. get_or S r 0) (λ r. get_or U r 0) (λ c. get_or D c 0) (λ c. get_or M c 0) (sends_at R n t f) (receives_at R n t f) P (columns P) alone same i j (place_of R n t f ws i f.left k.from) (place_of R n t f vs j f.right k.to) h pos;
         }
 
     marked_common : (r : ℕ) → p r ≡ true → common r ≡ true

@@ -1,7 +1,6 @@
 -- From a flow that cannot be improved: whether steps match, the weight function, and the cut. Assumes nothing.
 use Rattle.std.proofs.Common.{◌≡◌, ℕ, ◌+◌, ◌-◌, ◌*◌, ◌<◌, ◌≤◌, Bool, true, ◌&&◌, ltb, List, [], length, get_or, sum_by, refl, sym, ap, ◌∙◌, mul_comm, inl, inr, arith}
 use Rattle.std.specs.List.{list_any, sum}
-use Rattle.std.proofs.lemmas.List.{get_or_past}
 use Rattle.std.proofs.lemmas.Bool.{and_parts, cases_lt, ltb-true}
 use Rattle.model.specs.Model.{Step, mass, total}
 use Rattle.model.specs.declared.Branch.{Branch}
@@ -12,7 +11,7 @@ use Rattle.matching.proofs.Balance.{Part, balance, within}
 use Rattle.matching.proofs.Sets.{any_kept, each_all, kept, part_of, sum_all}
 use Rattle.matching.proofs.Steps.{branches_mass}
 use Rattle.matching.proofs.Sums.{Sum, sum_by_at, sum_part, sum_same, sum_scaled}
-use Rattle.matching.proofs.Tables.{column}
+use Rattle.matching.proofs.Tables.{column, inside}
 
 -- Two steps, by their actions and the weights of their targets, and a flow between them: the amounts, the supplies and what of
 -- them is unsent, the demands and the room that is left of them.
@@ -55,14 +54,6 @@ pub record Allowed (R : Relation) (t : Net) (r c : ℕ) : Type 0 where
   pub to : 0 < get_or t.to c 0
   pub related : R r c ≡ true
 
--- a place with a weight is one of the list's
-pub inside : (xs : List ℕ) (i n : ℕ) → length xs ≡ n → 0 < get_or xs i 0 → i < n
-inside xs i n e pos =
-    elim (cases_lt i (length xs)) [
-      | inl l ↦ omega arith
-      | inr past ↦ absurd (omega (arith, get_or_past xs i 0 past))
-    ]
-
 pub factor : (a b n : ℕ) → n ≡ a * b → 0 < n → 0 < a
 factor a b n e pos =
     elim (cases_lt 0 a) [
@@ -97,6 +88,10 @@ module _ (R : Relation) (n : ℕ) (t : Net) (f : Flowing R n t) where
 
   abbrev pub b : Step
   b = record { action = t.to_action; branches = branches_from 0 vs }
+
+  -- a place with a weight is one of the n
+  pub place_of : (xs : List ℕ) (i : ℕ) → length xs ≡ n → 0 < get_or xs i 0 → i < n
+  place_of xs i e pos = omega (arith, inside xs i pos)
 
   pub allowed : (r c : ℕ) → may_carry R t r c ≡ true → Allowed R t r c
   allowed r c h =
@@ -166,14 +161,14 @@ module _ (R : Relation) (n : ℕ) (t : Net) (f : Flowing R n t) where
   weighs none =
       record {
         sent = each_all _ ws (λ r pos.
-            let l : r < n = inside ws r n f.left pos in
+            let l : r < n = place_of ws r f.left pos in
             let row : sum_by (λ (v : Branch). amount A r v.target) (branches_from 0 vs) ≡ Sum n (λ c. amount A r c) =
             sum_all (λ v. amount A r v.target) vs (λ c z. no_amount r c (λ k. absurd (omega (arith, k.to))))
             ∙ ap (λ k. Sum k (λ c. amount A r c)) f.right in
             let is : Sum n (λ c. amount A r c) ≡ get_or ws r 0 * sum vs = omega (arith, sends_at r l, f.supply r, sum_part n r (λ r. get_or U r 0) l) in
             row ∙ (is ∙ ap (λ k. get_or ws r 0 * k) (sym (branches_mass vs 0))));
         received = each_all _ vs (λ c pos.
-            let l : c < n = inside vs c n f.right pos in
+            let l : c < n = place_of vs c f.right pos in
             let row : sum_by (λ (u : Branch). amount A u.target c) (branches_from 0 ws) ≡ Sum n (λ r. amount A r c) =
             sum_all (λ u. amount A u.target c) ws (λ r z. no_amount r c (λ k. absurd (omega (arith, k.from))))
             ∙ ap (λ k. Sum k (λ r. amount A r c)) f.left in

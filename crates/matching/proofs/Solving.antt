@@ -1,5 +1,5 @@
 -- What the search leaves tells whether the steps match. Assumes nothing.
-use Rattle.std.proofs.Common.{◌≡◌, ℕ, ◌*◌, ◌<◌, Bool, true, false, ◌==◌, [], length, get_or, sym, ap, ◌∙◌, arith}
+use Rattle.std.proofs.Common.{◌≡◌, ℕ, ◌*◌, ◌<◌, Bool, true, false, ◌==◌, [], length, get_or, sym, ap, subst, ◌∙◌, arith}
 use Rattle.std.specs.List.{list_all, sum}
 use Rattle.std.proofs.lemmas.Bool.{eqb-false, eqb-true}
 use Rattle.std.proofs.lemmas.List.Folds.{sum_by-zero}
@@ -22,6 +22,9 @@ pub record Posed (R : Relation) (l r : HeldStep) (t : Task) : Type 0 where
   pub demand : (v : ℕ) → get_or t.demand v 0 ≡ get_or r.weights v 0 * l.total
   pub allowed : (u v : ℕ) → cell false t.allowed u v ≡ allows R t.supply t.demand u v
 
+pub posed_again : (R : Relation) (l r : HeldStep) (t u : Task) → u ≡ t → Posed R l r t → Posed R l r u
+posed_again R l r t u e h = subst (λ x. Posed R l r x) (sym e) h
+
 -- the arrays have n places
 pub record Sized (n : ℕ) (l r : HeldStep) (f : Flow) : Type 0 where
   pub left : length l.weights ≡ n
@@ -30,7 +33,8 @@ pub record Sized (n : ℕ) (l r : HeldStep) (f : Flow) : Type 0 where
   pub wide : (u : ℕ) → u < n → length (get_or f.amounts u []) ≡ n
   pub unsent : length f.unsent ≡ n
 
-module _ (R : Relation) (n : ℕ) (l r : HeldStep) (f : Flow) (m : Marks) (posed : Posed R l r f.task) (sized : Sized n l r f) (stuck : Stuck f 1 m) where
+module _ (R : Relation) (n : ℕ) (l r : HeldStep) (f : Flow) (m : Marks) (posed : Posed R l r f.task) (sized : Sized n l r f)
+    (stuck : Stuck f 1 m) where
   abbrev net : Net
   net =
       record {
@@ -89,19 +93,22 @@ module _ (R : Relation) (n : ℕ) (l r : HeldStep) (f : Flow) (m : Marks) (posed
   something_left h =
       let some = eqb-false (sum f.unsent) 0 (sum_by-zero (λ x. x) f.unsent ∙ h) in omega (arith, rest_is)
 
-  pub do_match : spent ≡ true → l.action ≡ r.action → matches R (meaning l) (meaning r) ≡ true
-  do_match h = matches_all R n net flowing (row_marked m) (column_marked m) closing (nothing_left h)
+  -- a match, with its weights
+  pub matched : spent ≡ true → l.action ≡ r.action
+      → (true ≡ matches R (meaning l) (meaning r)) × Weights (Holds R) (meaning l) (meaning r) (amount f.amounts)
+  matched h same = (
+    sym (matches_all R n net flowing (row_marked m) (column_marked m) closing (nothing_left h) same),
+    weighs R n net flowing (nothing_left h),
+  )
 
-  pub weights : spent ≡ true → Weights (Holds R) (meaning l) (meaning r) (amount f.amounts)
-  weights h = weighs R n net flowing (nothing_left h)
-
-  pub do_not_match : spent ≡ false → matches R (meaning l) (meaning r) ≡ false
-  do_not_match h = matches_not R n net flowing (row_marked m) (column_marked m) closing (something_left h)
-
-  pub is_cut : spent ≡ false → l.action ≡ r.action → IsCut R (meaning l) (meaning r) m.rows
-  is_cut h same =
-      record {
-        action = same;
-        members = cut_members R n net flowing (row_marked m) (column_marked m) closing (something_left h);
-        branches = cut_branches R n net flowing (row_marked m) (column_marked m) closing (something_left h);
-      }
+  -- no match, with the cut
+  pub parted : spent ≡ false → l.action ≡ r.action
+      → (false ≡ matches R (meaning l) (meaning r)) × IsCut R (meaning l) (meaning r) m.rows
+  parted h same = (
+    sym (matches_not R n net flowing (row_marked m) (column_marked m) closing (something_left h)),
+    record {
+      action = same;
+      members = cut_members R n net flowing (row_marked m) (column_marked m) closing (something_left h);
+      branches = cut_branches R n net flowing (row_marked m) (column_marked m) closing (something_left h);
+    },
+  )

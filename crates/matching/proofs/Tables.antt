@@ -1,10 +1,10 @@
 -- A table with another amount at one place. Assumes nothing.
-use Rattle.std.proofs.Common.{◌≡◌, ◌≢◌, ℕ, ◌+◌, ◌<◌, ◌≤◌, Bool, true, false, List, [], length, get_or, replicate, set, sum_by, refl, ap, inl, inr, ◌∙◌, arith}
+use Rattle.std.proofs.Common.{◌≡◌, ◌≢◌, ℕ, ◌+◌, ◌<◌, ◌≤◌, Bool, true, false, ◌&&◌, ltb, List, [], length, get_or, replicate, set, sum_by, refl, ap, inl, inr, ◌∙◌, arith}
 use Rattle.std.proofs.lemmas.List.{get_or-set_same, get_or-set_other, get_or-replicate, get_or_past, length-replicate}
 use Rattle.std.proofs.lemmas.List.Sums.{sum_by-set, get_or-le-sum_by}
-use Rattle.std.proofs.lemmas.Bool.{cases_eq, cases_lt, false≢true}
+use Rattle.std.proofs.lemmas.Bool.{and_parts, cases_eq, cases_lt, false≢true, ltb-true}
 use Rattle.std.specs.List.{sum}
-use Rattle.matching.specs.Tables.{amount, cell, put}
+use Rattle.matching.specs.Tables.{allows, amount, cell, put}
 
 -- the sum of a column
 abbrev pub column : List (List ℕ) → ℕ → ℕ
@@ -32,6 +32,20 @@ row_of_cell A r c h =
       | inl l ↦ l
       | inr past ↦ absurd (false≢true (rw (get_or_past A r [] past) at h))
     ]
+
+-- a place with a number is one of the list's
+pub inside : (xs : List ℕ) (i : ℕ) → 0 < get_or xs i 0 → i < length xs
+inside xs i pos =
+    elim (cases_lt i (length xs)) [
+      | inl l ↦ l
+      | inr past ↦ absurd (omega (arith, get_or_past xs i 0 past))
+    ]
+
+-- so is the column of an allowed pair
+pub allowed_column : (R : ℕ → ℕ → Bool) (S D : List ℕ) (r c : ℕ) → allows R S D r c ≡ true → c < length D
+allowed_column R S D r c h =
+    let some = and_parts (ltb 0 (get_or S r 0)) (ltb 0 (get_or D c 0) && R r c) h in
+    inside D c (ltb-true 0 (get_or D c 0) (and_parts (ltb 0 (get_or D c 0)) (R r c) some.1).0)
 
 module _ (A : List (List ℕ)) (r c x : ℕ) (lr : r < length A) (lc : c < length (get_or A r [])) where
   pub put_row : get_or (put A r c x) r [] ≡ set (get_or A r []) c x

@@ -53,8 +53,8 @@ impl HeldStep {
         ensures { (t : ℕ) → slice_index result t ≡ slice_index self.now.weights t * total }
     {
         let mut scaled = [0; STATES];
-        for target in 0..STATES {
-            scaled[target] = u64::from(self.weights[target]) * u64::from(total);
+        for (target, weight) in self.weights.iter().enumerate() {
+            scaled[target] = u64::from(*weight) * u64::from(total);
         }
         scaled
     }

@@ -1,44 +1,20 @@
--- The verdict and what shows it, by what is left.
-use Rattle.std.proofs.Common.{sym, subst, ◌∙◌, rules}
-use Rattle.matching.proofs.Solving.{Posed, Sized, do_match, do_not_match, is_cut, weights}
+-- The verdict and what shows it, by whether all is sent.
+use Rattle.std.proofs.Common.{sym, ◌∙◌, rules}
+use Rattle.matching.proofs.Solving.{matched, parted, posed_again}
 use Rattle.matching.proofs.matching.solve.Goals as goal
 
-pub returns-then-is_spent-clause-verdict : goal.returns-then-is_spent-clause-verdict
-returns-then-is_spent-clause-verdict g c =
+pub returns-then-is_spent : goal.returns-then-is_spent
+returns-then-is_spent g c =
     let R = g.R.Relation.pairs c.args.relation.now in
-    let l = c.args.left.now in
-    let r = c.args.right.now in
     let f = c.settle-marks.new.self in
-    let posed : Posed R l r f.task = subst (λ t. Posed R l r t) (sym (c.settle-marks.ensures.task ∙ c.new-flow.ensures)) (record { supply = c.new.ensures.supply; demand = c.new.ensures.demand; allowed = c.new.ensures.allowed }) in
-    let sized : Sized 64 l r f = record { left = search rules; right = search rules; high = f.high; wide = f.wide; unsent = f.long } in
-    sym (do_match R 64 l r f c.settle-marks.result posed sized c.settle-marks.ensures.stuck (sym c.is_spent.ensures ∙ c.if-is_spent.true) c.if-left-right.false)
+    let posed = posed_again R c.args.left.now c.args.right.now c.new.result f.task (c.settle-marks.ensures.task ∙ c.new-flow.ensures) (record { supply = c.new.ensures.supply; demand = c.new.ensures.demand; allowed = c.new.ensures.allowed }) in
+    let r = matched R 64 c.args.left.now c.args.right.now f c.settle-marks.result posed (record { left = search rules; right = search rules; high = f.high; wide = f.wide; unsent = f.long }) c.settle-marks.ensures.stuck (sym c.is_spent.ensures ∙ c.if-is_spent.true) c.if-left-right.false in
+    record { verdict = r.0; answer = r.1 }
 
-pub returns-then-is_spent-clause-answer : goal.returns-then-is_spent-clause-answer
-returns-then-is_spent-clause-answer g c =
+pub returns-else-is_spent : goal.returns-else-is_spent
+returns-else-is_spent g c =
     let R = g.R.Relation.pairs c.args.relation.now in
-    let l = c.args.left.now in
-    let r = c.args.right.now in
     let f = c.settle-marks.new.self in
-    let posed : Posed R l r f.task = subst (λ t. Posed R l r t) (sym (c.settle-marks.ensures.task ∙ c.new-flow.ensures)) (record { supply = c.new.ensures.supply; demand = c.new.ensures.demand; allowed = c.new.ensures.allowed }) in
-    let sized : Sized 64 l r f = record { left = search rules; right = search rules; high = f.high; wide = f.wide; unsent = f.long } in
-    weights R 64 l r f c.settle-marks.result posed sized c.settle-marks.ensures.stuck (sym c.is_spent.ensures ∙ c.if-is_spent.true)
-
-pub returns-else-is_spent-clause-verdict : goal.returns-else-is_spent-clause-verdict
-returns-else-is_spent-clause-verdict g c =
-    let R = g.R.Relation.pairs c.args.relation.now in
-    let l = c.args.left.now in
-    let r = c.args.right.now in
-    let f = c.settle-marks.new.self in
-    let posed : Posed R l r f.task = subst (λ t. Posed R l r t) (sym (c.settle-marks.ensures.task ∙ c.new-flow.ensures)) (record { supply = c.new.ensures.supply; demand = c.new.ensures.demand; allowed = c.new.ensures.allowed }) in
-    let sized : Sized 64 l r f = record { left = search rules; right = search rules; high = f.high; wide = f.wide; unsent = f.long } in
-    sym (do_not_match R 64 l r f c.settle-marks.result posed sized c.settle-marks.ensures.stuck (sym c.is_spent.ensures ∙ c.if-is_spent.false))
-
-pub returns-else-is_spent-clause-answer : goal.returns-else-is_spent-clause-answer
-returns-else-is_spent-clause-answer g c =
-    let R = g.R.Relation.pairs c.args.relation.now in
-    let l = c.args.left.now in
-    let r = c.args.right.now in
-    let f = c.settle-marks.new.self in
-    let posed : Posed R l r f.task = subst (λ t. Posed R l r t) (sym (c.settle-marks.ensures.task ∙ c.new-flow.ensures)) (record { supply = c.new.ensures.supply; demand = c.new.ensures.demand; allowed = c.new.ensures.allowed }) in
-    let sized : Sized 64 l r f = record { left = search rules; right = search rules; high = f.high; wide = f.wide; unsent = f.long } in
-    is_cut R 64 l r f c.settle-marks.result posed sized c.settle-marks.ensures.stuck (sym c.is_spent.ensures ∙ c.if-is_spent.false) c.if-left-right.false
+    let posed = posed_again R c.args.left.now c.args.right.now c.new.result f.task (c.settle-marks.ensures.task ∙ c.new-flow.ensures) (record { supply = c.new.ensures.supply; demand = c.new.ensures.demand; allowed = c.new.ensures.allowed }) in
+    let r = parted R 64 c.args.left.now c.args.right.now f c.settle-marks.result posed (record { left = search rules; right = search rules; high = f.high; wide = f.wide; unsent = f.long }) c.settle-marks.ensures.stuck (sym c.is_spent.ensures ∙ c.if-is_spent.false) c.if-left-right.false in
+    record { verdict = r.0; answer = r.1 }
