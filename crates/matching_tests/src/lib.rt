@@ -1,0 +1,9 @@
+// Tests of matching: worked examples, large steps, each refusal of a branch, steps of a source.
+#![tactic(auto)]
+
+#[cfg(test)]
+mod large;
+#[cfg(test)]
+mod small;
+#[cfg(test)]
+mod steps;
