@@ -6,7 +6,7 @@ use crate::words::Words;
 use anyhow::{Result, anyhow};
 use matching::matching::{Matching, solve};
 use matching::step::HeldStep;
-use model::Branch;
+use model::{Branch, STATES};
 use std::alloc::Global;
 
 /// Two steps, and a relation between their targets.
@@ -61,8 +61,8 @@ impl<'a> Bytes<'a> {
     }
 
     fn words(&mut self) -> Result<Words> {
-        let mut words = [0; 64];
-        for place in 0..64 {
+        let mut words = [0; STATES];
+        for place in 0..STATES {
             words[place] = u64::from_be_bytes(self.take::<8>()?);
         }
         Ok(Words(words))

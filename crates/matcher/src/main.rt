@@ -8,14 +8,15 @@ mod words;
 use anyhow::anyhow;
 use instance::{Bytes, Instance};
 use matching::matching::Matching;
+use model::STATES;
 use std::io::Read;
 use std::rt::Clock;
 use std::time::Instant;
 use std::{env, io};
 
-fn list_cut(rt: &impl Print, cut: &[bool; 64]) -> io::Result<()> {
+fn list_cut(rt: &impl Print, cut: &[bool; STATES]) -> io::Result<()> {
     print!(rt; "cut")?;
-    for target in (0..64usize).filter(|target| cut[*target]) {
+    for target in (0..STATES).filter(|target| cut[*target]) {
         print!(rt; " {target}")?;
     }
     println!(rt)
