@@ -1,11 +1,10 @@
 -- A chain's result in std's words on lists, and the greatest in ours; lists that are gone through by place. Assumes nothing.
-use Rattle.std.proofs.Common.{◌≡◌, ℕ, max, Bool, true, false, cond, ◌||◌, List, [], ◌∷◌, map, length, get_or, filter, None, Some, Option, refl, ap, ◌∙◌, arith}
-use Rattle.std.specs.List.{fold, list_any, range_with_len, reduce, sum_by}
+use Rattle.std.proofs.Common.{◌≡◌, ℕ, max, Bool, true, false, cond, List, [], ◌∷◌, map, length, get_or, filter, None, Some, Option, refl, ap, ◌∙◌, arith}
+use Rattle.std.specs.List.{fold, range_with_len, reduce, sum_by}
 use Rattle.std.specs.Option.{option_map, unwrap_or}
-use Rattle.std.proofs.lemmas.List.{get_or_default, same_lists}
-use Rattle.std.proofs.lemmas.List.FromFn.{get_or-map-range_with_len, length-map-range_with_len}
 use Rattle.std.proofs.lemmas.List.Sums.{sum_by-cons}
 use Rattle.model.specs.Lists.{greatest}
+use Rattle.model.proofs.Places.{elements}
 
 greatest_from : (n : ℕ) (xs : List ℕ) → fold max n xs ≡ max n (greatest xs)
 greatest_from n [] = omega arith
@@ -18,21 +17,6 @@ greatest_is (Some y) [] h = cc
 greatest_is (Some y) (x ∷ xs) h = let e : y ≡ fold max x xs = cc in e ∙ greatest_from x xs
 
 module _ {X : Type 0} (xs : List X) (d : X) where
-  -- the elements at all places
-  elements : map (λ i. get_or xs i d) (range_with_len 0 (length xs)) ≡ xs
-  elements =
-      let at : ℕ → X = λ i. get_or xs i d in
-      let long : length (map at (range_with_len 0 (length xs))) ≡ length xs = length-map-range_with_len at 0 (length xs) in
-      same_lists _ xs long
-      (λ k e h. get_or-map-range_with_len at 0 (length xs) k k e (omega arith) (omega arith) ∙ get_or_default xs k d e (omega arith))
-
-  any-map : {Y : Type 0} (p : X → Bool) (f : Y → X) (ys : List Y) → list_any (λ y. p (f y)) ys ≡ list_any p (map f ys)
-  any-map p f [] = refl
-  any-map p f (y ∷ ys) = ap (λ b. p (f y) || b) (any-map p f ys)
-
-  pub any_place : (p : X → Bool) → list_any (λ i. p (get_or xs i d)) (range_with_len 0 (length xs)) ≡ list_any p xs
-  any_place p = any-map p (λ i. get_or xs i d) (range_with_len 0 (length xs)) ∙ ap (list_any p) elements
-
   module _ (w : X → ℕ) (p : X → Bool) where
     sum-map-filter : {Y : Type 0} (f : Y → X) (ys : List Y)
         → sum_by (λ y. w (f y)) (filter (λ y. p (f y)) ys) ≡ sum_by w (filter p (map f ys))
@@ -49,4 +33,4 @@ module _ {X : Type 0} (xs : List X) (d : X) where
         ]
 
     pub sum_places : sum_by (λ i. w (get_or xs i d)) (filter (λ i. p (get_or xs i d)) (range_with_len 0 (length xs))) ≡ sum_by w (filter p xs)
-    sum_places = sum-map-filter (λ i. get_or xs i d) (range_with_len 0 (length xs)) ∙ ap (λ ys. sum_by w (filter p ys)) elements
+    sum_places = sum-map-filter (λ i. get_or xs i d) (range_with_len 0 (length xs)) ∙ ap (λ ys. sum_by w (filter p ys)) (elements xs d)

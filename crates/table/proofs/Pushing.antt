@@ -1,5 +1,5 @@
 -- What one more step does to a table's rows and branches, and to what they stand for. Assumes nothing.
-use Rattle.std.proofs.Common.{◌≡◌, ℕ, zero, suc, ◌+◌, ◌<◌, ◌≤◌, max, true, List, [], ◌∷◌, ◌++◌, map, length, get_or, take, drop, set, sum_by, refl, ap, ◌∙◌, arith}
+use Rattle.std.proofs.Common.{◌≡◌, ℕ, zero, suc, ◌+◌, ◌<◌, ◌≤◌, max, true, List, [], ◌∷◌, ◌++◌, map, length, get_or, take, drop, set, sum_by, ap, ◌∙◌, arith}
 use Rattle.std.proofs.Math.Seq.{drop-append_seam}
 use Rattle.std.specs.List.{AllByRecursion as All}
 use Rattle.std.proofs.ByRecursion.{All-get_or, All-push, All-set, All-weaker}
@@ -8,7 +8,7 @@ use Rattle.std.proofs.lemmas.List.Sums.{sum_by-set, sum_by_push}
 use Rattle.model.specs.Lists.{greatest}
 use Rattle.model.specs.Model.{Step, lawful, total}
 use Rattle.model.specs.declared.Branch.{Branch}
-use Rattle.model.proofs.Elements.{get_or_map_default}
+use Rattle.model.proofs.Elements.{get_or_map_default, map_same}
 use Rattle.model.proofs.Greatest.{greatest_bounds}
 use Rattle.model.proofs.Laws.{LawfulStep}
 use Rattle.model.proofs.Tests.{all_at}
@@ -16,10 +16,6 @@ use Rattle.table.specs.Arrays.{Row, branches_in, measured, row_in, states_in, st
 use Rattle.table.specs.declared.row.Entry.{Entry}
 use Rattle.table.proofs.Arrays.{Inside, Placed, no_row}
 use Rattle.table.proofs.Measures.{SoundRow, lawful_from_sound, row_total, sound_from_lawful}
-
-map_same : {X Y : Type 0} (f g : X → Y) (xs : List X) → All (λ x. f x ≡ g x) xs → map f xs ≡ map g xs
-map_same f g [] h = refl
-map_same f g (x ∷ xs) h = cc (h.0, map_same f g xs h.1)
 
 -- branches behind those that are there, and a step of them as the last of its row
 module _ (rows : List Row) (bs new : List Branch) (placed : Placed (length bs) rows) where

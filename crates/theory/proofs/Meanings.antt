@@ -6,11 +6,12 @@ use Rattle.std.proofs.lemmas.List.{get_or_push, length_push}
 use Rattle.std.proofs.lemmas.Bool.{and_parts}
 use Rattle.model.specs.Lists.{greatest}
 use Rattle.model.specs.Model.{Model, Step, steps_of, total}
+use Rattle.model.proofs.Elements.{map_same}
 use Rattle.theory.specs.Laws.{LinesMean}
 use Rattle.theory.specs.Sentences.{all_of, any_of, Line, not_of, StateSet, step_to, depth_at, depths_from, depths_of, fits_after, line_depth}
 use Rattle.theory.specs.Sentences.{line_holds, names, nowhere, own_depth, part_holds, set_of, sets_from, sets_of, well_formed_from}
 use Rattle.theory.specs.declared.Part.{Part}
-use Rattle.theory.proofs.Tests.{all_same, any_same, map_same, share_same, all_always, all_unmap}
+use Rattle.theory.proofs.Tests.{all_same, any_same, share_same, all_always, all_unmap}
 use Rattle.theory.proofs.Texts.{names_between, run_keeps}
 
 -- Where a line holds depends on the sets of the lines that it names only, and at a state of some that steps do not leave

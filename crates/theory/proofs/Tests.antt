@@ -51,10 +51,6 @@ module _ {X : Type 0} (p q : X → Bool) where
 pub share_same : (X Y : StateSet) (a : Step) → All (λ b. X b.target ≡ Y b.target) a.branches → share X a ≡ share Y a
 share_same X Y a h = ap mass (filter_same (λ b. X b.target) (λ b. Y b.target) a.branches h)
 
-pub map_same : {X Y : Type 0} (f g : X → Y) (xs : List X) → All (λ x. f x ≡ g x) xs → map f xs ≡ map g xs
-map_same f g [] h = refl
-map_same f g (x ∷ xs) h = rw (h.0, map_same f g xs h.1)
-
 pub all_unmap : {X Y : Type 0} (P : X → Type 0) (f : Y → X) (ys : List Y) → All P (map f ys) → All (λ y. P (f y)) ys
 all_unmap P f [] h = tt
 all_unmap P f (y ∷ ys) h = (h.0, all_unmap P f ys h.1)

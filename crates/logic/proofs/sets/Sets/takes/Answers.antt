@@ -4,10 +4,10 @@ use Rattle.std.proofs.lemmas.Iterator.{YieldsList-from_range}
 use Rattle.std.proofs.lemmas.Iterator.Search.{any_from_yields_List}
 use Rattle.std.specs.List.{list_all}
 use Rattle.model.specs.Model.{Model, Step, no_step, steps_of}
+use Rattle.model.proofs.Places.{any_place}
 use Rattle.theory.specs.Sentences.{part_holds}
 use Rattle.logic.specs.File.{parts_of}
 use Rattle.logic.specs.Words.{sets_in}
-use Rattle.logic.proofs.Chains.{any_place}
 use Rattle.logic.proofs.sets.Sets.takes.Goals as goal
 
 pub returns : goal.returns

@@ -1,0 +1,2 @@
+-- Lemmas on the steps of two states. Assumes nothing.
+pub mod Firsts

@@ -1,0 +1,2 @@
+-- Which steps of two states match. Assumes nothing.
+pub mod Steps

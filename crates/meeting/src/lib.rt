@@ -1,0 +1,4 @@
+// Which steps of two states match under a relation, and whether the states meet.
+#![tactic(auto)]
+
+pub mod meeting;
