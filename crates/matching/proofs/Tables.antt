@@ -85,10 +85,3 @@ amount_le_row A r c =
       | inl l ↦ get_or-le-sum_by (λ n. n) (get_or A r []) c 0 l
       | inr past ↦ omega (arith, get_or_past (get_or A r []) c 0 past)
     ]
-
-pub amount_le_column : (A : List (List ℕ)) (r c : ℕ) → amount A r c ≤ column A c
-amount_le_column A r c =
-    elim (cases_lt r (length A)) [
-      | inl l ↦ get_or-le-sum_by (λ row. get_or row c 0) A r [] l
-      | inr past ↦ rw (get_or_past A r [] past) (omega arith)
-    ]
