@@ -12,7 +12,7 @@ use Rattle.theory.specs.Matching.{Relation, cut, has_target, matches, most, surp
 use Rattle.matching.specs.Steps.{branches_from}
 use Rattle.matching.specs.Tables.{amount}
 use Rattle.matching.proofs.Balance.{Part, part_mono, tight, tight_back, tight_start}
-use Rattle.matching.proofs.Duality.{Net, may_carry, Flowing, H, Left, Shut, a, allowed, b, bounded, factor, only, place_of, receives_at, sends_at, stands, surplus_parts}
+use Rattle.matching.proofs.Duality.{Net, may_carry, Flowing, stood_to, Left, Shut, a, allowed, b, bounded, factor, only, place_of, receives_at, sends_at, stands, surplus_parts}
 use Rattle.matching.proofs.Sets.{any_kept, found, kept, kept_same, parts_each, parts_kept}
 use Rattle.matching.proofs.Steps.{weight_le}
 use Rattle.matching.proofs.Sums.{Sum}
@@ -82,7 +82,7 @@ module _ (R : Relation) (n : ℕ) (t : Net) (f : Flowing R n t) (p q : ℕ → B
   over W = surplus R left_step right_step W
 
   abbrev columns : (ℕ → Bool) → ℕ → Bool
-  columns P = H R n t f P
+  columns P = stood_to R n t f P
 
   -- what a target with a weight has to send is not nothing, where the other step has a weight
   positive : (r c : ℕ) → 0 < get_or ws r 0 → 0 < get_or vs c 0 → 0 < get_or S r 0

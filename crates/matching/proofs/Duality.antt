@@ -133,28 +133,28 @@ module _ (R : Relation) (n : ℕ) (t : Net) (f : Flowing R n t) where
   Left = Sum n unsents
 
   -- the columns to which a set of rows stands
-  abbrev pub H : (ℕ → Bool) → ℕ → Bool
-  H P c = list_any (λ u. R u.target c) (kept P (branches_from 0 ws))
+  abbrev pub stood_to : (ℕ → Bool) → ℕ → Bool
+  stood_to P c = list_any (λ u. R u.target c) (kept P (branches_from 0 ws))
 
-  pub surplus_parts : (P : ℕ → Bool) → surplus R a b (kept P (branches_from 0 ws)) ≡ Part n P supplies - Part n (H P) demands
+  pub surplus_parts : (P : ℕ → Bool) → surplus R a b (kept P (branches_from 0 ws)) ≡ Part n P supplies - Part n (stood_to P) demands
   surplus_parts P =
       let out : mass (kept P (branches_from 0 ws)) * total b ≡ Part n P supplies =
       ap (λ k. mass (kept P (branches_from 0 ws)) * k) (branches_mass vs 0) ∙ part_of P ws S n (sum vs) f.left f.supply in
-      let come : mass (kept (H P) (branches_from 0 vs)) * total a ≡ Part n (H P) demands =
-      ap (λ k. mass (kept (H P) (branches_from 0 vs)) * k) (branches_mass ws 0) ∙ part_of (H P) vs D n (sum ws) f.right f.demand in
-      ap (λ x. x - mass (kept (H P) (branches_from 0 vs)) * total a) out ∙ ap (λ x. Part n P supplies - x) come
+      let come : mass (kept (stood_to P) (branches_from 0 vs)) * total a ≡ Part n (stood_to P) demands =
+      ap (λ k. mass (kept (stood_to P) (branches_from 0 vs)) * k) (branches_mass ws 0) ∙ part_of (stood_to P) vs D n (sum ws) f.right f.demand in
+      ap (λ x. x - mass (kept (stood_to P) (branches_from 0 vs)) * total a) out ∙ ap (λ x. Part n P supplies - x) come
 
-  pub stands : (P : ℕ → Bool) (r c : ℕ) → P r ≡ true → may_carry R t r c ≡ true → H P c ≡ true
+  pub stands : (P : ℕ → Bool) (r c : ℕ) → P r ≡ true → may_carry R t r c ≡ true → stood_to P c ≡ true
   stands P r c p h =
       let k = allowed r c h in
       any_kept (λ u. R u c) P ws 0 r r (omega arith) k.from p k.related
 
-  pub only : (P : ℕ → Bool) (r c : ℕ) → r < n → c < n → P r ≡ true → 0 < amount A r c → H P c ≡ true
+  pub only : (P : ℕ → Bool) (r c : ℕ) → r < n → c < n → P r ≡ true → 0 < amount A r c → stood_to P c ≡ true
   only P r c l k p pos = stands P r c p (f.carries r c pos)
 
   pub bounded : (P : ℕ → Bool) → surplus R a b (kept P (branches_from 0 ws)) ≤ Left
   bounded P =
-      omega (arith, surplus_parts P, within n n (amount A) supplies unsents demands rooms sends_at receives_at P (H P) (only P))
+      omega (arith, surplus_parts P, within n n (amount A) supplies unsents demands rooms sends_at receives_at P (stood_to P) (only P))
 
   -- where all is sent, there is no room
   no_room : Left ≡ 0 → (c : ℕ) → c < n → get_or M c 0 ≡ 0
