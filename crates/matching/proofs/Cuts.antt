@@ -12,9 +12,10 @@ use Rattle.theory.specs.Matching.{Relation, cut, has_target, matches, most, surp
 use Rattle.matching.specs.Steps.{branches_from}
 use Rattle.matching.specs.Tables.{amount}
 use Rattle.matching.proofs.Balance.{Part, part_mono, tight, tight_back, tight_start}
-use Rattle.matching.proofs.Duality.{Net, may_carry, Flowing, H, Left, Shut, a, allowed, b, bounded, factor, only, place_of, receives_at, sends_at, stands, surplus_parts}
+use Rattle.matching.proofs.Duality.{Net, may_carry, Flowing, stood_to, Left, Shut, a, allowed, b, bounded, factor, only, place_of, receives_at, sends_at, stands, surplus_parts}
 use Rattle.matching.proofs.Sets.{any_kept, found, kept, kept_same, parts_each, parts_kept}
 use Rattle.matching.proofs.Steps.{weight_le}
+use Rattle.matching.proofs.Sums.{Sum}
 
 -- The rows p and columns q that a search has reached: no way leaves them, the columns have no room, and the rows lie in each
 -- set of rows that no way leaves.
@@ -44,14 +45,20 @@ module _ (R : Relation) (n : ℕ) (t : Net) (f : Flowing R n t) (p q : ℕ → B
   abbrev S : List ℕ
   S = t.supply
 
-  abbrev U : List ℕ
-  U = t.unsent
-
   abbrev D : List ℕ
   D = t.demand
 
-  abbrev M : List ℕ
-  M = t.room
+  abbrev supplies : ℕ → ℕ
+  supplies r = get_or t.supply r 0
+
+  abbrev unsents : ℕ → ℕ
+  unsents r = get_or t.unsent r 0
+
+  abbrev demands : ℕ → ℕ
+  demands c = get_or t.demand c 0
+
+  abbrev rooms : ℕ → ℕ
+  rooms c = get_or t.room c 0
 
   abbrev left_step : Step
   left_step = a R n t f
@@ -65,12 +72,19 @@ module _ (R : Relation) (n : ℕ) (t : Net) (f : Flowing R n t) (p q : ℕ → B
   abbrev left_branches : List Branch
   left_branches = branches_from 0 ws
 
+  sends : (r : ℕ) → r < n → Sum n (λ c. amount A r c) + unsents r ≡ supplies r
+  sends = sends_at R n t f
+
+  receives : (c : ℕ) → c < n → Sum n (λ r. amount A r c) + rooms c ≡ demands c
+  receives = receives_at R n t f
+
   abbrev over : List Branch → ℕ
   over W = surplus R left_step right_step W
 
   abbrev columns : (ℕ → Bool) → ℕ → Bool
-  columns P = H R n t f P
+  columns P = stood_to R n t f P
 
+  -- what a target with a weight has to send is not nothing, where the other step has a weight
   positive : (r c : ℕ) → 0 < get_or ws r 0 → 0 < get_or vs c 0 → 0 < get_or S r 0
   positive r c pos to =
       let le : get_or vs c 0 ≤ sum vs = weight_le vs c in
@@ -87,11 +101,12 @@ module _ (R : Relation) (n : ℕ) (t : Net) (f : Flowing R n t) (p q : ℕ → B
   -- the marked rows have the greatest surplus
   reached : over (kept p left_branches) ≡ rest
   reached =
-      let full : Part n p (λ r. get_or S r 0) ≡ Part n q (λ c. get_or D c 0) + rest =
-      tight n n (amount A) (λ r. get_or S r 0) (λ r. get_or U r 0) (λ c. get_or D c 0) (λ c. get_or M c 0) (sends_at R n t f) (receives_at R n t f) p q
-      (λ i j l k h pos. closing.shut.along i j h (f.carries i j pos)) (λ i l pos. closing.shut.start i pos) (λ j l h. closing.full j h) (λ i j l k h pos. closing.shut.back i j h pos) in
-      let le : Part n (columns p) (λ c. get_or D c 0) ≤ Part n q (λ c. get_or D c 0) =
-      part_mono n (columns p) q (λ c. get_or D c 0) (λ c pos h.
+      let full : Part n p supplies ≡ Part n q demands + rest =
+      tight n n (amount A) supplies unsents demands rooms sends receives p q
+      (λ i j l k h pos. closing.shut.along i j h (f.carries i j pos))
+      (λ i l pos. closing.shut.start i pos) (λ j l h. closing.full j h) (λ i j l k h pos. closing.shut.back i j h pos) in
+      let le : Part n (columns p) demands ≤ Part n q demands =
+      part_mono n (columns p) q demands (λ c pos h.
       let w = found (λ u. R u c) p ws 0 h in
       closing.shut.along w.place c (ap p (omega arith) ∙ w.kept) (stood w.place c w.some pos (ap (λ u. R u c) (omega arith) ∙ w.passes))) in
       omega (arith, bounded R n t f p, surplus_parts R n t f p)
@@ -142,17 +157,18 @@ module _ (R : Relation) (n : ℕ) (t : Net) (f : Flowing R n t) (p q : ℕ → B
     -- a set of greatest surplus is left by no way
     best_is_shut : (P : ℕ → Bool) → rest ≤ over (kept P left_branches) → Shut R t P (columns P)
     best_is_shut P best =
-        let same : Part n P (λ r. get_or S r 0) ≡ Part n (columns P) (λ c. get_or D c 0) + rest =
+        let same : Part n P supplies ≡ Part n (columns P) demands + rest =
         omega (arith, surplus_parts R n t f P, bounded R n t f P) in
         let alone = only R n t f P in
         record {
           start = λ i pos.
               let l : i < n = place_of R n t f ws i f.left (factor (get_or ws i 0) (sum vs) (get_or S i 0) (f.supply i) (omega (arith, f.sends i))) in
-              tight_start n n (amount A) (λ r. get_or S r 0) (λ r. get_or U r 0) (λ c. get_or D c 0) (λ c. get_or M c 0) (sends_at R n t f) (receives_at R n t f) P (columns P) alone same i l pos;
+              tight_start n n (amount A) supplies unsents demands rooms sends receives P (columns P) alone same i l pos;
           along = λ i j. stands R n t f P i j;
           back = λ i j h pos.
               let k = allowed R n t f i j (f.carries i j pos) in
-              tight_back n n (amount A) (λ r. get_or S r 0) (λ r. get_or U r 0) (λ c. get_or D c 0) (λ c. get_or M c 0) (sends_at R n t f) (receives_at R n t f) P (columns P) alone same i j (place_of R n t f ws i f.left k.from) (place_of R n t f vs j f.right k.to) h pos;
+              tight_back n n (amount A) supplies unsents demands rooms sends receives P (columns P) alone same i j
+              (place_of R n t f ws i f.left k.from) (place_of R n t f vs j f.right k.to) h pos;
         }
 
     marked_common : (r : ℕ) → p r ≡ true → common r ≡ true

@@ -83,6 +83,18 @@ module _ (R : Relation) (n : ℕ) (t : Net) (f : Flowing R n t) where
   abbrev M : List ℕ
   M = t.room
 
+  abbrev supplies : ℕ → ℕ
+  supplies r = get_or t.supply r 0
+
+  abbrev unsents : ℕ → ℕ
+  unsents r = get_or t.unsent r 0
+
+  abbrev demands : ℕ → ℕ
+  demands c = get_or t.demand c 0
+
+  abbrev rooms : ℕ → ℕ
+  rooms c = get_or t.room c 0
+
   abbrev pub a : Step
   a = record { action = t.from_action; branches = branches_from 0 ws }
 
@@ -118,42 +130,42 @@ module _ (R : Relation) (n : ℕ) (t : Net) (f : Flowing R n t) where
 
   -- all that is unsent
   abbrev pub Left : ℕ
-  Left = Sum n (λ r. get_or U r 0)
+  Left = Sum n unsents
 
   -- the columns to which a set of rows stands
-  abbrev pub H : (ℕ → Bool) → ℕ → Bool
-  H P c = list_any (λ u. R u.target c) (kept P (branches_from 0 ws))
+  abbrev pub stood_to : (ℕ → Bool) → ℕ → Bool
+  stood_to P c = list_any (λ u. R u.target c) (kept P (branches_from 0 ws))
 
-  pub surplus_parts : (P : ℕ → Bool) → surplus R a b (kept P (branches_from 0 ws)) ≡ Part n P (λ r. get_or S r 0) - Part n (H P) (λ c. get_or D c 0)
+  pub surplus_parts : (P : ℕ → Bool) → surplus R a b (kept P (branches_from 0 ws)) ≡ Part n P supplies - Part n (stood_to P) demands
   surplus_parts P =
-      let out : mass (kept P (branches_from 0 ws)) * total b ≡ Part n P (λ r. get_or S r 0) =
+      let out : mass (kept P (branches_from 0 ws)) * total b ≡ Part n P supplies =
       ap (λ k. mass (kept P (branches_from 0 ws)) * k) (branches_mass vs 0) ∙ part_of P ws S n (sum vs) f.left f.supply in
-      let come : mass (kept (H P) (branches_from 0 vs)) * total a ≡ Part n (H P) (λ c. get_or D c 0) =
-      ap (λ k. mass (kept (H P) (branches_from 0 vs)) * k) (branches_mass ws 0) ∙ part_of (H P) vs D n (sum ws) f.right f.demand in
-      ap (λ x. x - mass (kept (H P) (branches_from 0 vs)) * total a) out ∙ ap (λ x. Part n P (λ r. get_or S r 0) - x) come
+      let come : mass (kept (stood_to P) (branches_from 0 vs)) * total a ≡ Part n (stood_to P) demands =
+      ap (λ k. mass (kept (stood_to P) (branches_from 0 vs)) * k) (branches_mass ws 0) ∙ part_of (stood_to P) vs D n (sum ws) f.right f.demand in
+      ap (λ x. x - mass (kept (stood_to P) (branches_from 0 vs)) * total a) out ∙ ap (λ x. Part n P supplies - x) come
 
-  pub stands : (P : ℕ → Bool) (r c : ℕ) → P r ≡ true → may_carry R t r c ≡ true → H P c ≡ true
+  pub stands : (P : ℕ → Bool) (r c : ℕ) → P r ≡ true → may_carry R t r c ≡ true → stood_to P c ≡ true
   stands P r c p h =
       let k = allowed r c h in
       any_kept (λ u. R u c) P ws 0 r r (omega arith) k.from p k.related
 
-  pub only : (P : ℕ → Bool) (r c : ℕ) → r < n → c < n → P r ≡ true → 0 < amount A r c → H P c ≡ true
+  pub only : (P : ℕ → Bool) (r c : ℕ) → r < n → c < n → P r ≡ true → 0 < amount A r c → stood_to P c ≡ true
   only P r c l k p pos = stands P r c p (f.carries r c pos)
 
   pub bounded : (P : ℕ → Bool) → surplus R a b (kept P (branches_from 0 ws)) ≤ Left
   bounded P =
-      omega (arith, surplus_parts P, within n n (amount A) (λ r. get_or S r 0) (λ r. get_or U r 0) (λ c. get_or D c 0) (λ c. get_or M c 0) sends_at receives_at P (H P) (only P))
+      omega (arith, surplus_parts P, within n n (amount A) supplies unsents demands rooms sends_at receives_at P (stood_to P) (only P))
 
   -- where all is sent, there is no room
   no_room : Left ≡ 0 → (c : ℕ) → c < n → get_or M c 0 ≡ 0
   no_room none c l =
       let all : ℕ → Bool = λ i. true in
-      let bal = balance n n (amount A) (λ r. get_or S r 0) (λ r. get_or U r 0) (λ c. get_or D c 0) (λ c. get_or M c 0) sends_at receives_at all all (λ i j p q r s. refl) in
-      let out : Sum n (λ r. get_or S r 0) ≡ sum ws * sum vs =
+      let bal = balance n n (amount A) supplies unsents demands rooms sends_at receives_at all all (λ i j p q r s. refl) in
+      let out : Sum n supplies ≡ sum ws * sum vs =
       sum_same n _ _ (λ i p. f.supply i) ∙ (sum_scaled n (λ r. get_or ws r 0) (sum vs) ∙ ap (λ x. x * sum vs) (ap (λ k. Sum k (λ r. get_or ws r 0)) (sym f.left) ∙ sym (sum_by_at (λ x. x) 0 ws))) in
-      let come : Sum n (λ c. get_or D c 0) ≡ sum vs * sum ws =
+      let come : Sum n demands ≡ sum vs * sum ws =
       sum_same n _ _ (λ i p. f.demand i) ∙ (sum_scaled n (λ c. get_or vs c 0) (sum ws) ∙ ap (λ x. x * sum ws) (ap (λ k. Sum k (λ c. get_or vs c 0)) (sym f.right) ∙ sym (sum_by_at (λ x. x) 0 vs))) in
-      let here : get_or M c 0 ≤ Sum n (λ c. get_or M c 0) = sum_part n c (λ c. get_or M c 0) l in
+      let here : get_or M c 0 ≤ Sum n rooms = sum_part n c rooms l in
       omega (arith, mul_comm (sum ws) (sum vs))
 
   -- a flow that leaves nothing is a weight function
@@ -165,7 +177,7 @@ module _ (R : Relation) (n : ℕ) (t : Net) (f : Flowing R n t) where
             let row : sum_by (λ (v : Branch). amount A r v.target) (branches_from 0 vs) ≡ Sum n (λ c. amount A r c) =
             sum_all (λ v. amount A r v.target) vs (λ c z. no_amount r c (λ k. absurd (omega (arith, k.to))))
             ∙ ap (λ k. Sum k (λ c. amount A r c)) f.right in
-            let is : Sum n (λ c. amount A r c) ≡ get_or ws r 0 * sum vs = omega (arith, sends_at r l, f.supply r, sum_part n r (λ r. get_or U r 0) l) in
+            let is : Sum n (λ c. amount A r c) ≡ get_or ws r 0 * sum vs = omega (arith, sends_at r l, f.supply r, sum_part n r unsents l) in
             row ∙ (is ∙ ap (λ k. get_or ws r 0 * k) (sym (branches_mass vs 0))));
         received = each_all _ vs (λ c pos.
             let l : c < n = place_of vs c f.right pos in

@@ -4,6 +4,7 @@ pub mod Sources
 pub mod Sums
 pub mod Balance
 pub mod Sets
+pub mod Held
 pub mod Duality
 pub mod Cuts
 pub mod Solving

@@ -1,7 +1,6 @@
 -- The branches of a step of a lawful model may be added one after another. Assumes nothing.
-use Rattle.std.proofs.Common.{◌≡◌, ℕ, zero, suc, ◌+◌, ◌<◌, ◌≤◌, true, nat_lt, nat_le, List, [], ◌∷◌, length, get_or, take, None, refl, sym, ap, ◌∙◌, arith}
+use Rattle.std.proofs.Common.{◌≡◌, ℕ, zero, suc, ◌+◌, ◌<◌, ◌≤◌, true, nat_lt, nat_le, List, [], ◌∷◌, length, get_or, take, None, refl, arith}
 use Rattle.std.specs.List.{AllByRecursion as All, list_all}
-use Rattle.std.proofs.lemmas.List.{take_more}
 use Rattle.std.proofs.ByRecursion.{All-weaker}
 use Rattle.std.proofs.lemmas.Bool.{and_from, and_parts, leb-true, lt-ltb}
 use Rattle.std.proofs.lemmas.List.Sums.{sum_by_more_le}
@@ -9,8 +8,8 @@ use Rattle.model.specs.Model.{Model, Step, count, lawful, no_branch, no_step, ri
 use Rattle.model.specs.declared.Branch.{Branch}
 use Rattle.model.proofs.Laws.{Lawful, LawfulStep, lawful_parts}
 use Rattle.model.proofs.Tests.{all_at}
-use Rattle.matching.specs.Steps.{grown, refusal, rises_above}
-use Rattle.matching.proofs.Steps.{grown_by, may_be_added}
+use Rattle.matching.specs.Steps.{refusal, rises_above}
+use Rattle.matching.proofs.Steps.{may_be_added}
 
 -- a step's first branches
 abbrev pub first_branches : Step → ℕ → Step
@@ -74,11 +73,6 @@ module _ (a : Step) (h : Addable a) (n : ℕ) (l : n < length a.branches) where
   pub next_fits : refusal (first_branches a n) next ≡ None
   next_fits = may_be_added (first_branches a n) next next_rises next_sound.1 next_light
 
-  pub next_added : grown (first_branches a n) next ≡ first_branches a (n + 1)
-  next_added =
-      grown_by (first_branches a n) next next_rises next_sound.1 next_light
-      ∙ ap (λ bs. let s : Step = record { action = a.action; branches = bs } in s) (sym (take_more a.branches n no_branch l))
-
   -- the same where the step and the branch are given
   module _ (s : Step) (t w : ℕ) (e : s ≡ first_branches a n) (p : t ≡ next.target) (q : w ≡ next.weight) where
     abbrev given : Branch
@@ -86,6 +80,3 @@ module _ (a : Step) (h : Addable a) (n : ℕ) (l : n < length a.branches) where
 
     pub given_fits : refusal s given ≡ None
     given_fits = rw (e, p, q) next_fits
-
-    pub given_added : grown s given ≡ first_branches a (n + 1)
-    given_added = rw (e, p, q) next_added

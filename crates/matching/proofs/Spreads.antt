@@ -1,8 +1,8 @@
 -- How searches without success join. Assumes nothing.
-use Rattle.std.proofs.Common.{◌≡◌, ℕ, ◌+◌, ◌<◌, Bool, true, false, cond, not, List, length, get_or, set, count_by, refl, sym, length-set, ◌∙◌, inl, inr, arith}
+use Rattle.std.proofs.Common.{◌≡◌, ℕ, ◌+◌, ◌<◌, Bool, true, false, cond, not, List, length, get_or, set, count_by, sym, length-set, ◌∙◌, inl, inr, arith}
 use Rattle.std.proofs.lemmas.List.Sums.{sum_by-set}
 use Rattle.std.proofs.lemmas.List.{get_or-set_same, get_or-set_other}
-use Rattle.std.proofs.lemmas.Bool.{cases_eq, cases_Bool, both_ways}
+use Rattle.std.proofs.lemmas.Bool.{cases_eq, cases_Bool}
 use Rattle.matching.specs.Reach.{Closed, ColumnDone, Inside, RowDone, Spread, column_marked, row_marked}
 use Rattle.matching.specs.declared.flow.Flow.{Flow}
 use Rattle.matching.specs.declared.marks.Marks.{Marks}
@@ -30,18 +30,6 @@ module _ (l : List Bool) (i : ℕ) (inside : i < length l) where
       sum_by-set (λ b. cond (not b) 1 0) l i true false inside in
       let t : count_by not (set l i true) + 1 ≡ count_by not l + 0 = rw e at s in
       omega arith
-
-pub spread_none : (f : Flow) (least : ℕ) (m : Marks) → Spread f least m m
-spread_none f least m =
-    record {
-      rows = λ r e. e;
-      columns = λ c e. e;
-      new_rows = λ r p q. absurd (both_ways (row_marked m r) p q);
-      new_columns = λ c p q. absurd (both_ways (column_marked m c) p q);
-      fewer = omega arith;
-      wide = refl;
-      inside = λ P Q closed h. h;
-    }
 
 pub row_stays_done : (f : Flow) (n k : Marks) (r : ℕ) → ((c : ℕ) → column_marked n c ≡ true → column_marked k c ≡ true)
     → RowDone f n r → RowDone f k r

@@ -1,5 +1,5 @@
 -- A table with another amount at one place. Assumes nothing.
-use Rattle.std.proofs.Common.{◌≡◌, ◌≢◌, ℕ, ◌+◌, ◌<◌, ◌≤◌, Bool, true, false, ◌&&◌, ltb, List, [], length, get_or, replicate, set, sum_by, refl, ap, inl, inr, ◌∙◌, arith}
+use Rattle.std.proofs.Common.{◌≡◌, ◌≢◌, ℕ, ◌+◌, ◌<◌, ◌≤◌, Bool, true, false, ◌&&◌, ltb, List, [], length, get_or, replicate, set, sum_by, refl, sym, ap, inl, inr, ◌∙◌, arith}
 use Rattle.std.proofs.lemmas.List.{get_or-set_same, get_or-set_other, get_or-replicate, get_or_past, length-replicate}
 use Rattle.std.proofs.lemmas.List.Sums.{sum_by-set, get_or-le-sum_by}
 use Rattle.std.proofs.lemmas.Bool.{and_parts, cases_eq, cases_lt, false≢true, ltb-true}
@@ -41,10 +41,11 @@ inside xs i pos =
       | inr past ↦ absurd (omega (arith, get_or_past xs i 0 past))
     ]
 
--- so is the column of an allowed pair
-pub allowed_column : (R : ℕ → ℕ → Bool) (S D : List ℕ) (r c : ℕ) → allows R S D r c ≡ true → c < length D
-allowed_column R S D r c h =
-    let some = and_parts (ltb 0 (get_or S r 0)) (ltb 0 (get_or D c 0) && R r c) h in
+-- so is the column of a pair that a table allows
+pub allowed_column : (A : List (List Bool)) (R : ℕ → ℕ → Bool) (S D : List ℕ) (r c : ℕ) → cell false A r c ≡ allows R S D r c
+    → cell false A r c ≡ true → c < length D
+allowed_column A R S D r c e h =
+    let some = and_parts (ltb 0 (get_or S r 0)) (ltb 0 (get_or D c 0) && R r c) (sym e ∙ h) in
     inside D c (ltb-true 0 (get_or D c 0) (and_parts (ltb 0 (get_or D c 0)) (R r c) some.1).0)
 
 module _ (A : List (List ℕ)) (r c x : ℕ) (lr : r < length A) (lc : c < length (get_or A r [])) where
@@ -84,11 +85,4 @@ amount_le_row A r c =
     elim (cases_lt c (length (get_or A r []))) [
       | inl l ↦ get_or-le-sum_by (λ n. n) (get_or A r []) c 0 l
       | inr past ↦ omega (arith, get_or_past (get_or A r []) c 0 past)
-    ]
-
-pub amount_le_column : (A : List (List ℕ)) (r c : ℕ) → amount A r c ≤ column A c
-amount_le_column A r c =
-    elim (cases_lt r (length A)) [
-      | inl l ↦ get_or-le-sum_by (λ row. get_or row c 0) A r [] l
-      | inr past ↦ rw (get_or_past A r [] past) (omega arith)
     ]

@@ -1,8 +1,6 @@
 -- One more turn of a search's loops. Assumes nothing.
-use Rattle.std.proofs.Common.{◌≡◌, ℕ, ◌+◌, ◌<◌, ◌≤◌, true, false, List, length, get_or, set, length-set, subst, ◌∙◌, inl, inr, below_more, arith}
-use Rattle.std.proofs.lemmas.List.Sums.{sum_by-set}
+use Rattle.std.proofs.Common.{◌≡◌, ℕ, ◌+◌, ◌<◌, ◌≤◌, true, false, length, get_or, length-set, subst, ◌∙◌, inl, inr, below_more, arith}
 use Rattle.std.proofs.lemmas.Bool.{both_ways, cases_Bool}
-use Rattle.std.specs.List.{sum}
 use Rattle.matching.specs.Tables.{amount}
 use Rattle.matching.specs.Reach.{Blocked, ColumnDone, Crowded, Reached, RowDone, Spread, column_marked, may_send, row_marked}
 use Rattle.matching.specs.declared.flow.Flow.{Flow}
@@ -138,6 +136,3 @@ reached_none f least m no_row no_column =
         columns = λ c e. absurd (both_ways (column_marked m c) (no_column c) e);
       };
     }
-
-pub sum_less : (V W : List ℕ) (r y : ℕ) → W ≡ set V r y → r < length V → y < get_or V r 0 → sum W < sum V
-sum_less V W r y e l less = rw e (omega (arith, sum_by-set (λ x. x) V r y 0 l))

@@ -36,21 +36,21 @@ impl Flow {
     }
 
     /// Lets a row send this amount to a column, whatever it sent there before.
-    pub(crate) fn assign(&mut self, row: usize, column: usize, by: u64)
+    pub(crate) fn assign(&mut self, row: usize, column: usize, sent: u64)
         requires row { row < 64 }
         requires column { column < 64 }
-        requires allowed { 0 < by → cell false self.old.task.allowed row column ≡ true }
-        requires left { by ≤ amount self.old.amounts row column + slice_index self.old.unsent row }
-        requires space { by ≤ amount self.old.amounts row column + slice_index self.old.room column }
+        requires allowed { 0 < sent → cell false self.old.task.allowed row column ≡ true }
+        requires left { sent ≤ amount self.old.amounts row column + slice_index self.old.unsent row }
+        requires space { sent ≤ amount self.old.amounts row column + slice_index self.old.room column }
         ensures task { self.new.task ≡ self.old.task }
-        ensures amounts { self.new.amounts ≡ put self.old.amounts row column by }
-        ensures unsent { self.new.unsent ≡ slice_set self.old.unsent row (slice_index self.old.unsent row + amount self.old.amounts row column - by) }
-        ensures room { self.new.room ≡ slice_set self.old.room column (slice_index self.old.room column + amount self.old.amounts row column - by) }
+        ensures amounts { self.new.amounts ≡ put self.old.amounts row column sent }
+        ensures unsent { self.new.unsent ≡ slice_set self.old.unsent row (slice_index self.old.unsent row + amount self.old.amounts row column - sent) }
+        ensures room { self.new.room ≡ slice_set self.old.room column (slice_index self.old.room column + amount self.old.amounts row column - sent) }
     {
-        let sent = self.amounts[row][column];
-        self.amounts[row][column] = by;
-        self.unsent[row] = self.unsent[row] + sent - by;
-        self.room[column] = self.room[column] + sent - by;
+        let before = self.amounts[row][column];
+        self.amounts[row][column] = sent;
+        self.unsent[row] = self.unsent[row] + before - sent;
+        self.room[column] = self.room[column] + before - sent;
     }
 
     /// Lets a row send to another column what it sends to this one, as much as there is room for.

@@ -13,7 +13,8 @@ mod answer;
 
 pub use answer::Matching;
 
-/// Matches the left step with the right one.
+/// Matches the left step with the right one, whose targets the relation is asked about, and shows what was found: the weights, or
+/// the cut, where the actions are equal.
 pub fn solve<R: Relation>(left: &HeldStep, right: &HeldStep, relation: &R) -> Matching
     ensures verdict { is_matched result ≡ matches (R.pairs relation.now) (meaning left.now) (meaning right.now) }
     ensures answer { Answers (R.pairs relation.now) (meaning left.now) (meaning right.now) result }

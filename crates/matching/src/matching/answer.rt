@@ -1,5 +1,4 @@
 // What a match is answered.
-
 use model::STATES;
 
 /// Whether a step matches another one, and what shows it.

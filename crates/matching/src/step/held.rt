@@ -1,5 +1,5 @@
 // What a held step keeps, and why a branch may not be added to it.
-ghost use Rattle.std.specs.Prelude.{◌≡◌, ◌≤◌, sum};
+ghost use Rattle.std.specs.Prelude.{◌≡◌, ◌≤◌, length, sum};
 
 use model::STATES;
 
@@ -11,6 +11,7 @@ pub struct HeldStep {
     pub(crate) weights: [u32; STATES],
     /// The sum of the weights, at most 1,000,000,000.
     pub(crate) total: u32,
+    ghost wide: { length weights ≡ 64 },
     ghost counted: { total ≡ sum weights },
     ghost light: { total ≤ 1000000000 },
 }

@@ -16,7 +16,9 @@ make_room-loop-row-preserved t c =
     elim c.if-not-marks-row.branch [
       | make_room-then-not-marks-row+then-self-row+in_default w ↦
           let len : r < length n.rows = search rules in
-          rw (w.self-is, w.marks-is) (row_blocked f g w.outlet.new.self c.args.least c.args.marks.now n w.outlet.new.marks r k s w.in_default.ensures len w.if-not-marks-row.true c.requires.marked c.requires.some w.if-self-row.true)
+          rw (w.self-is, w.marks-is)
+          (row_blocked f g w.outlet.new.self c.args.least c.args.marks.now n w.outlet.new.marks r k s w.in_default.ensures len
+          w.if-not-marks-row.true c.requires.marked c.requires.some w.if-self-row.true)
       | make_room-else-not-marks-row w ↦
           rw (w.self-is, w.marks-is) (row_passed f g c.args.least c.args.marks.now n r k s (λ enough. elim w.else-not-marks-row.branch [
             | make_room-else-not-marks-row-via-then-not-marks-row+else-self-row w' ↦ absurd (omega arith)
@@ -35,7 +37,9 @@ outlet-loop-column-preserved t c =
     elim c.if-self-row.branch [
       | outlet-then-self-row+then-not-marks-column+else-make_room w ↦
           let len : k < length n.columns = search rules in
-          rw (w.self-is, w.marks-is) (column_crowded f g w.make_room.new.self c.args.least c.args.marks.now n w.make_room.new.marks r k s w.if-make_room.ensures len w.if-not-marks-column.true c.requires.marked w.if-self-row.true)
+          rw (w.self-is, w.marks-is)
+          (column_crowded f g w.make_room.new.self c.args.least c.args.marks.now n w.make_room.new.marks r k s w.if-make_room.ensures len
+          w.if-not-marks-column.true c.requires.marked w.if-self-row.true)
       | outlet-else-self-row w ↦
           rw (w.self-is, w.marks-is) (column_passed f g c.args.least c.args.marks.now n r k s (λ ok. elim w.else-self-row.branch [
             | outlet-else-self-row-via-then-self-row+else-not-marks-column w' ↦ w'.if-not-marks-column.false

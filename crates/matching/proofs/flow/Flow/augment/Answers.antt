@@ -32,7 +32,9 @@ loop-row-preserved c =
     elim c.if-not-marks-row.branch [
       | then-not-marks-row+then-self-row+in_default w ↦
           let len : r < length n.rows = omega (arith, s.wide) in
-          rw (w.self-is, w.marks-is) (start_blocked f g w.outlet.new.self c.args.least n n w.outlet.new.marks r s w.in_default.ensures len w.if-not-marks-row.true c.requires w.if-self-row.true)
+          rw (w.self-is, w.marks-is)
+          (start_blocked f g w.outlet.new.self c.args.least n n w.outlet.new.marks r s w.in_default.ensures len
+          w.if-not-marks-row.true c.requires w.if-self-row.true)
       | else-not-marks-row w ↦
           rw (w.self-is, w.marks-is) (start_passed f g c.args.least n n r s (λ enough. elim w.else-not-marks-row.branch [
             | else-not-marks-row-via-then-not-marks-row+else-self-row w' ↦ absurd (omega arith)

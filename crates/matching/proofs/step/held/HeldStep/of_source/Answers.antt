@@ -17,5 +17,7 @@ prove-unreachable-requires g c =
     let a = step_at m c.args.state c.args.step in
     let n = c.loop-place.place in
     let inside : n < length a.branches = omega (arith, c.branches-place-end.ensures) in
-    let free = given_fits a (addable m (g.met.S.Source.obeys c.args.source.now) c.args.state c.args.step) n inside (meaning c.loop-place.held) c.target.result c.weight.result c.loop-place.invariant c.target.ensures c.weight.ensures in
+    let lawful = addable m (g.met.S.Source.obeys c.args.source.now) c.args.state c.args.step in
+    let free =
+    given_fits a lawful n inside (meaning c.loop-place.held) c.target.result c.weight.result c.loop-place.invariant c.target.ensures c.weight.ensures in
     both_ways _ (sym c.is_ok-added.ensures.value ∙ c.if-prove.true) (ok_where_no_err c.push.result (c.push.ensures.answer ∙ free))

@@ -1,6 +1,5 @@
 -- The tables are in their ranges.
-use Rattle.std.proofs.Common.{◌≡◌, true, false, length, refl, sym, ◌∙◌, arith, rules}
-use Rattle.matching.specs.Tables.{allows}
+use Rattle.std.proofs.Common.{◌≡◌, false, length, refl, arith, rules}
 use Rattle.matching.proofs.Tables.{allowed_column, cell_replicate, row_of_cell}
 use Rattle.matching.proofs.Steps.{weight_bound}
 use Rattle.matching.proofs.task.shape.Task.new.Goals as goal
@@ -20,7 +19,7 @@ invariant_of-result g c =
           let R = g.R.Relation.pairs c.args.relation.now in
           let wide : length c.scaled-demand.result ≡ 64 = search rules in
           let row = row_of_cell c.loop-row.allowed t k ok in
-          let stands : allows R c.scaled-supply.result c.scaled-demand.result t k ≡ true =
-          sym (c.loop-row.invariant.below t k (omega arith)) ∙ ok in
-          omega (arith, allowed_column R c.scaled-supply.result c.scaled-demand.result t k stands);
+          let column =
+          allowed_column c.loop-row.allowed R c.scaled-supply.result c.scaled-demand.result t k (c.loop-row.invariant.below t k (omega arith)) ok in
+          omega arith;
     }
