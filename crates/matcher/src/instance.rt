@@ -18,7 +18,7 @@ pub struct Instance {
 }
 
 impl Instance {
-    pub fn answer(&self) -> Matching {
+    pub(crate) fn answer(&self) -> Matching {
         solve(&self.left, &self.right, &self.related)
     }
 }
@@ -30,7 +30,7 @@ pub struct Bytes<'a> {
 }
 
 impl<'a> Bytes<'a> {
-    pub fn of(bytes: &'a [u8]) -> Self {
+    pub(crate) fn of(bytes: &'a [u8]) -> Self {
         Bytes { rest: bytes }
     }
 
@@ -80,7 +80,7 @@ impl<'a> Bytes<'a> {
     }
 
     /// All the instances, to the end of the bytes.
-    pub fn instances(mut self, alloc: Global) -> Result<Vec<Instance>> {
+    pub(crate) fn instances(mut self, alloc: Global) -> Result<Vec<Instance>> {
         let mut instances = Vec::new(alloc);
         // An instance has a byte at least, so there are no more than bytes.
         for _ in 0..self.rest.len() {

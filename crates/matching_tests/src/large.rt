@@ -5,7 +5,7 @@ use model::Branch;
 use std::test::Fail;
 
 /// Every pair.
-struct Complete;
+pub(crate) struct Complete;
 
 impl Relation for Complete {
     ghost use Rattle.std.specs.Prelude.{true};
@@ -31,7 +31,7 @@ impl Relation for Empty {
 }
 
 /// Each number with itself.
-struct Diagonal;
+pub(crate) struct Diagonal;
 
 impl Relation for Diagonal {
     ghost use Rattle.std.specs.Prelude.{◌==◌};

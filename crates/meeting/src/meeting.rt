@@ -13,6 +13,7 @@ use matching::step::HeldStep;
 use model::source::Source;
 
 /// A source, and the relation of its states under which steps are matched.
+#[derive(Drop)]
 pub struct Meeting<'a, S, R> {
     pub source: &'a S,
     pub relation: &'a R,
