@@ -17,8 +17,8 @@ moves-preserved g c =
     let R : Relation = g.R.Relation.pairs c.args.self.now.relation.now in
     let matched : ℕ → Bool = λ i. is_followed m R c.args.t (step_at m c.args.s i) in
     let here : matched c.moves.i ≡ true =
-        list_any_at (λ b. matches R (step_at m c.args.s c.moves.i) b) (steps_of m c.args.t) c.loop-j.j no_step (omega arith)
-        (ap (λ a. matches R a (step_at m c.args.t c.loop-j.j)) (sym c.step-left.ensures) ∙ ap (matches R (meaning c.step-left.result)) (sym c.step.ensures) ∙ sym c.is_match.ensures ∙ c.if-is_match.true) in
+    list_any_at (λ b. matches R (step_at m c.args.s c.moves.i) b) (steps_of m c.args.t) c.loop-j.j no_step (omega arith)
+    (ap (λ a. matches R a (step_at m c.args.t c.loop-j.j)) (sym c.step-left.ensures) ∙ ap (matches R (meaning c.step-left.result)) (sym c.step.ensures) ∙ sym c.is_match.ensures ∙ c.if-is_match.true) in
     below_more (λ k. matched k ≡ true) c.moves.i c.moves.invariant here
 
 -- the place of the first step that no step of t is matched by, where each before i matches one, and i is the last or none
@@ -34,7 +34,7 @@ returns-in-moves g c =
     let R : Relation = g.R.Relation.pairs c.args.self.now.relation.now in
     let all = take_all c.loop-j.j (steps_of m c.args.t) (omega (arith, c.steps-j-end.ensures)) in
     let e = place m R c.args.s c.args.t c.moves.i (omega arith) c.moves.invariant
-        (λ h. sym (ap (list_any (λ b. matches R (step_at m c.args.s c.moves.i) b)) all) ∙ c.loop-j.invariant) in
+    (λ h. sym (ap (list_any (λ b. matches R (step_at m c.args.s c.moves.i) b)) all) ∙ c.loop-j.invariant) in
     search (rules, e)
 
 pub returns : goal.returns
