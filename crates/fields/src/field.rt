@@ -20,8 +20,13 @@ pub trait Rule {
     fn kind(&self, tag: u8) -> Option<Self::Kind>
         ensures { MatchOption result (due self.now tag ≡ false) (λ kind. (due self.now tag ≡ true) × (tag_of kind ≡ tag)) };
 
-    fn allows(&self, kind: Self::Kind, length: usize) -> bool
-        ensures { result ≡ allowed self.now (tag_of kind) length };
+    /// The tag of a kind.
+    fn tag(kind: Self::Kind) -> u8
+        ensures { result ≡ tag_of kind };
+
+    /// Whether a tag allows a length, be the tag due or not.
+    fn allows(&self, tag: u8, length: usize) -> bool
+        ensures { result ≡ allowed self.now tag length };
 }
 
 /// A field, with the place where it begins and what follows it.
@@ -54,7 +59,7 @@ pub fn read_field<'a, R: Rule>(
         return Err(Flaw::Tag.at(place));
     };
     let length = usize::from(u16::from_be_bytes([*high, *low]));
-    if !rule.allows(kind, length) {
+    if !rule.allows(*tag, length) {
         return Err(Flaw::Length.at(place));
     }
     let Some((value, rest)) = rest.split_at_checked(length) else {

@@ -1,5 +1,5 @@
 -- A chain's result in std's words on lists, and the greatest in ours; lists that are gone through by place. Assumes nothing.
-use Rattle.std.proofs.Common.{◌≡◌, ℕ, max, Bool, true, false, cond, List, [], ◌∷◌, map, length, get_or, filter, None, Some, Option, refl, ap, ◌∙◌, arith}
+use Rattle.std.proofs.Common.{◌≡◌, ℕ, ◌+◌, max, Bool, true, false, cond, List, [], ◌∷◌, map, length, get_or, filter, None, Some, Option, refl, ap, ◌∙◌, arith}
 use Rattle.std.specs.List.{fold, range_with_len, reduce, sum_by}
 use Rattle.std.specs.Option.{option_map, unwrap_or}
 use Rattle.std.proofs.lemmas.List.Sums.{sum_by-cons}
@@ -15,6 +15,19 @@ greatest_is None [] h = refl
 greatest_is None (x ∷ xs) h = cc
 greatest_is (Some y) [] h = cc
 greatest_is (Some y) (x ∷ xs) h = let e : y ≡ fold max x xs = cc in e ∙ greatest_from x xs
+
+-- what is summed with 0 where a test fails is the sum over what passes it
+pub sum_tested : {X : Type 0} (f : X → ℕ) (p : X → Bool) (xs : List X) → sum_by (λ x. cond (p x) (f x) 0) xs ≡ sum_by f (filter p xs)
+sum_tested f p [] = refl
+sum_tested {X} f p (x ∷ xs) =
+    let more = sum_tested f p xs in
+    let behind : List X = filter p xs in
+    let front = sum_by-cons f x behind in
+    sum_by-cons (λ y. cond (p y) (f y) 0) x xs
+    ∙ elim (p x) as (λ b. cond b (f x) 0 + sum_by (λ y. cond (p y) (f y) 0) xs ≡ sum_by f (cond b (x ∷ behind) behind)) [
+      | true ↦ omega arith
+      | false ↦ omega arith
+    ]
 
 module _ {X : Type 0} (xs : List X) (d : X) where
   module _ (w : X → ℕ) (p : X → Bool) where

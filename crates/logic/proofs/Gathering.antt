@@ -32,7 +32,7 @@ word_named n words i h =
 
 -- some words that stand for sets
 module _ (n : ℕ) (sets : List StateSet) (words : List ℕ) (same : words ≡ map (word n) sets) where
-  word_at : (i : ℕ) → get_or words i 0 ≡ word n (get_or sets i nowhere)
+  pub word_at : (i : ℕ) → get_or words i 0 ≡ word n (get_or sets i nowhere)
   word_at i =
       ap (λ ws. get_or ws i 0) same ∙ ap (get_or (map (word n) sets) i) (sym (word_nowhere n))
       ∙ get_or_map_default (word n) sets i nowhere

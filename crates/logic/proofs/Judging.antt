@@ -40,7 +40,7 @@ module _ {m : Model} {before : List ℕ} {done : List Line} {words depths : List
   in_front_here = judged.in_front ∙ ap (λ k. W ++ drop k before) here
 
   -- the words and the depths of the lines done
-  words_done : take i words ≡ W
+  pub words_done : take i words ≡ W
   words_done = ap (take i) in_front_here ∙ take_at W (drop i before) i length_words
 
   pub words_low : (k : ℕ) → get_or (take i words) k 0 < 2 ^ count m

@@ -9,10 +9,10 @@ pub const LINES: usize = 4095;
 /// The kinds of lines.
 #[derive(Clone, Copy, PartialEq, Eq, Debug)]
 pub enum LineKind {
-    Not,
-    All,
-    Any,
-    Step,
+    Not = 0x11,
+    All = 0x12,
+    Any = 0x13,
+    Step = 0x14,
 }
 
 /// Any kind of line may stand anywhere in a sentence file.
@@ -38,12 +38,18 @@ impl Rule for SentenceField {
         }
     }
 
-    /// A not-line names one line, a step-line has an action and parts of ten bytes, the others name lines in any number.
-    fn allows(&self, kind: LineKind, length: usize) -> bool {
-        match kind {
-            LineKind::Not => length == 2,
-            LineKind::All | LineKind::Any => length % 2 == 0,
-            LineKind::Step => length % 10 == 1,
+    fn tag(kind: LineKind) -> u8 {
+        // A cast is the one form that reads a discriminant.
+        kind as u8
+    }
+
+    /// A not-line names one line, a step-line has an action and parts of ten bytes, the others name lines in any number; what
+    /// these allow, a tag of no kind does too.
+    fn allows(&self, tag: u8, length: usize) -> bool {
+        match self.kind(tag) {
+            Some(LineKind::Not) => length == 2,
+            Some(LineKind::Step) => length % 10 == 1,
+            Some(LineKind::All | LineKind::Any) | None => length % 2 == 0,
         }
     }
 }

@@ -59,12 +59,18 @@ impl<'a, S: Source> Sets<'a, S> {
     }
 
     /// How much of a step's weight goes to a set.
+    // One closure tests and weighs: a `filter` in front of a `map` takes up to twice as long.
     fn share(&self, state: usize, step: usize, set: u64) -> u32
         ensures { result ≡ share (has set) (step_at (S.meaning self.now.source.now) state step) }
     {
         (0..self.source.branches(state, step))
-            .filter(|branch| contains(set, self.source.target(state, step, *branch)))
-            .map(|branch| self.source.weight(state, step, branch))
+            .map(|branch| {
+                if contains(set, self.source.target(state, step, branch)) {
+                    self.source.weight(state, step, branch)
+                } else {
+                    0
+                }
+            })
             .sum()
     }
 

@@ -1,7 +1,9 @@
 use crate::refusals::refused_over;
 use crate::verdicts::judged;
 use fields::fault::FileFault;
+use fields::field::Rule;
 use logic::fault::{JudgeFault, Verdict};
+use logic::format::{LineKind, SentenceField};
 use logic::judge::judge;
 use sources::ladder::Ladder;
 use std::alloc::{AllocError, Global};
@@ -116,4 +118,13 @@ fn depth_grows_by_one_with_each_step(rt: HostRuntime) -> Result<(), Fail> {
         })
     );
     Ok(())
+}
+
+#[test]
+fn lengths_go_by_tags(rt: HostRuntime) {
+    assert!(rt; SentenceField.allows(0x11, 2) && !SentenceField.allows(0x11, 4));
+    assert!(rt; SentenceField.allows(0x13, 0) && !SentenceField.allows(0x13, 1));
+    assert!(rt; SentenceField.allows(0x14, 21) && !SentenceField.allows(0x14, 20));
+    assert!(rt; SentenceField.allows(0x20, 4) && !SentenceField.allows(0x20, 3));
+    assert_eq!(rt; SentenceField::tag(LineKind::Step), 0x14);
 }

@@ -1,7 +1,9 @@
 use crate::absent::answers_0;
 use crate::files::{add_step, full_file};
+use fields::field::Rule;
 use model::source::Source;
 use std::test::Fail;
+use table::format::ModelField;
 use table::table::Table;
 use table::worked::coin_file;
 
@@ -104,4 +106,13 @@ fn a_total_of_30000_is_read(rt: HostRuntime) -> Result<(), Fail> {
     assert_eq!(rt; table.total(0, 0), 30_000);
     assert_eq!(rt; table.most_total(), 30_000);
     Ok(())
+}
+
+#[test]
+fn lengths_go_by_what_is_due(rt: HostRuntime) {
+    for tag in [0x01, 0x02, 0x77] {
+        assert!(rt; ModelField::States.allows(tag, 1) && !ModelField::States.allows(tag, 2));
+        assert!(rt; ModelField::Step.allows(tag, 194) && !ModelField::Step.allows(tag, 197));
+    }
+    assert_eq!(rt; ModelField::tag(ModelField::Step), 0x02);
 }

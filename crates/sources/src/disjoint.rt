@@ -1,5 +1,5 @@
 // The disjoint union of two sources: the states of the one, and after them those of the other.
-ghost use Rattle.std.specs.Prelude.{◌≡◌, ℕ};
+ghost use Rattle.std.specs.Prelude.{◌≡◌, ℕ, ◌+◌, ◌^◌, ◌<◌, ◌||◌, ◌==◌, nat_lt};
 ghost use Rattle.sources.specs.Kinds.{side_of, union, union_void};
 ghost use Rattle.model.proofs.Laws.{lawful_from_parts, lawful_parts};
 ghost use Rattle.sources.specs.Unions.{union_is_lawful};
@@ -20,6 +20,14 @@ pub struct Union<A, B> {
 enum Side {
     Left(usize),
     Right(usize),
+}
+
+/// Whether two parts of so many states have no union: one is void, or they have too many states together.
+fn have_no_union(left: usize, right: usize) -> bool
+    requires { left + right < 2 ^ 64 }
+    ensures { result ≡ (left == 0 || right == 0 || nat_lt 64 (left + right)) }
+{
+    left == 0 || right == 0 || left + right > STATES
 }
 
 impl<A: Source, B: Source> Union<A, B> {
@@ -43,21 +51,22 @@ impl<A: Source, B: Source> Union<A, B> {
     fn is_void(&self) -> bool
         ensures { result ≡ union_void (A.meaning self.now.left) (B.meaning self.now.right) }
     {
-        let left = self.left.states();
-        let right = self.right.states();
-        left == 0 || right == 0 || left + right > STATES
+        have_no_union(self.left.states(), self.right.states())
     }
 
     /// Where a state lies, if the union has it.
+    // A part may be a union itself, so each is asked for its states once; the hints let a caller's loop ask in front of it.
+    #[inline(always)]
     fn locate(&self, state: usize) -> Option<Side>
         ensures { result ≡ side_of (A.meaning self.now.left) (B.meaning self.now.right) state }
     {
         let left = self.left.states();
-        if self.is_void() {
+        let right = self.right.states();
+        if have_no_union(left, right) {
             None
         } else if state < left {
             Some(Side::Left(state))
-        } else if state < left + self.right.states() {
+        } else if state < left + right {
             Some(Side::Right(state - left))
         } else {
             None
@@ -65,6 +74,7 @@ impl<A: Source, B: Source> Union<A, B> {
     }
 
     /// What the part in which a state lies answers, asked by the state's number there; without such a state, the default.
+    #[inline(always)]
     fn ask<T, L, R>(&self, state: usize, left: L, right: R) -> T
     where
         T: Default,

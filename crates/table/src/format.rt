@@ -25,9 +25,12 @@ impl Rule for ModelField {
         (tag == *self as u8).then_some(*self)
     }
 
-    /// The states take one byte; a step takes two, and three for each of its 1 to 64 branches. A field that is due is of the
-    /// rule's own kind.
-    fn allows(&self, _kind: ModelField, length: usize) -> bool {
+    fn tag(kind: ModelField) -> u8 {
+        kind as u8
+    }
+
+    /// The states take one byte; a step takes two, and three for each of its 1 to 64 branches.
+    fn allows(&self, _tag: u8, length: usize) -> bool {
         match self {
             ModelField::States => length == 1,
             ModelField::Step => 5 <= length && length <= 194 && (length - 2) % 3 == 0,

@@ -39,7 +39,7 @@ module _ (m : Model) (P : ℕ → Type 0) (xs ys : List StateSet) where
       (steps_of m s) stay)
 
 -- at any states
-sets_same : (m : Model) (xs ys : List StateSet) (l : Line) → All (λ i. set_of xs i ≡ set_of ys i) (names l)
+pub sets_same : (m : Model) (xs ys : List StateSet) (l : Line) → All (λ i. set_of xs i ≡ set_of ys i) (names l)
     → (s : ℕ) → line_holds m xs l s ≡ line_holds m ys l s
 sets_same m xs ys l h s =
     line_holds_same m (λ _. Unit {0}) xs ys l (All-weaker _ _ (λ i e t _. ap (λ X. X t) e) (names l) h) s tt

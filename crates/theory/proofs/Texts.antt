@@ -81,7 +81,7 @@ own_depth_small (any_of is) = omega arith
 own_depth_small (step_to act qs) = omega arith
 
 -- a line is at most one deeper than all in front of it
-line_depth_at_most : (n : ℕ) (depths : List ℕ) (l : Line) → All (λ d. d ≤ n) depths → line_depth depths l ≤ n + 1
+pub line_depth_at_most : (n : ℕ) (depths : List ℕ) (l : Line) → All (λ d. d ≤ n) depths → line_depth depths l ≤ n + 1
 line_depth_at_most n depths l h =
     let named = all_always (λ j. depth_at depths j ≤ n) (λ j. all_at (λ d. d ≤ n) depths (j - 1) 0 h (omega arith)) (names l) in
     omega (arith, greatest_least (depth_at depths) n (names l) named, own_depth_small l)
