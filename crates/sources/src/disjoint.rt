@@ -22,8 +22,8 @@ enum Side {
     Right(usize),
 }
 
-/// Whether two parts of so many states have no union: one is void, or they have too many states together.
-fn have_no_union(left: usize, right: usize) -> bool
+/// Whether the union of two parts of so many states is void: one part is, or they have too many states together.
+fn is_void_of(left: usize, right: usize) -> bool
     requires { left + right < 2 ^ 64 }
     ensures { result ≡ (left == 0 || right == 0 || nat_lt 64 (left + right)) }
 {
@@ -51,18 +51,19 @@ impl<A: Source, B: Source> Union<A, B> {
     fn is_void(&self) -> bool
         ensures { result ≡ union_void (A.meaning self.now.left) (B.meaning self.now.right) }
     {
-        have_no_union(self.left.states(), self.right.states())
+        is_void_of(self.left.states(), self.right.states())
     }
 
     /// Where a state lies, if the union has it.
-    // A part may be a union itself, so each is asked for its states once; the hints let a caller's loop ask in front of it.
+    // A part may be a union itself, so each is asked for its states once; the hints, here and at `ask`, let the compiler move
+    // these questions in front of a caller's loop.
     #[inline(always)]
     fn locate(&self, state: usize) -> Option<Side>
         ensures { result ≡ side_of (A.meaning self.now.left) (B.meaning self.now.right) state }
     {
         let left = self.left.states();
         let right = self.right.states();
-        if have_no_union(left, right) {
+        if is_void_of(left, right) {
             None
         } else if state < left {
             Some(Side::Left(state))
