@@ -42,9 +42,13 @@ moved_branch k b = record { target = k + b.target; weight = b.weight }
 abbrev pub moved : ℕ → Step → Step
 moved k a = record { action = a.action; branches = map (moved_branch k) a.branches }
 
+-- whether two parts of n1 and n2 states have no union
+abbrev pub counts_void : ℕ → ℕ → Bool
+counts_void n1 n2 = n1 == 0 || n2 == 0 || nat_lt 64 (n1 + n2)
+
 -- whether two models have no union
 abbrev pub union_void : Model → Model → Bool
-union_void a b = count a == 0 || count b == 0 || nat_lt 64 (count a + count b)
+union_void a b = counts_void (count a) (count b)
 
 -- The states of a and then those of b, each with its own steps; each measure is the larger one.
 abbrev pub union : Model → Model → Model

@@ -1,6 +1,6 @@
 // The disjoint union of two sources: the states of the one, and after them those of the other.
-ghost use Rattle.std.specs.Prelude.{◌≡◌, ℕ, ◌+◌, ◌^◌, ◌<◌, ◌||◌, ◌==◌, nat_lt};
-ghost use Rattle.sources.specs.Kinds.{side_of, union, union_void};
+ghost use Rattle.std.specs.Prelude.{◌≡◌, ℕ, ◌+◌, ◌^◌, ◌<◌};
+ghost use Rattle.sources.specs.Kinds.{counts_void, side_of, union, union_void};
 ghost use Rattle.model.proofs.Laws.{lawful_from_parts, lawful_parts};
 ghost use Rattle.sources.specs.Unions.{union_is_lawful};
 
@@ -25,7 +25,7 @@ enum Side {
 /// Whether the union of two parts of so many states is void: one part is, or they have too many states together.
 fn is_void_of(left: usize, right: usize) -> bool
     requires { left + right < 2 ^ 64 }
-    ensures { result ≡ (left == 0 || right == 0 || nat_lt 64 (left + right)) }
+    ensures { result ≡ counts_void left right }
 {
     left == 0 || right == 0 || left + right > STATES
 }

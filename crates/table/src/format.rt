@@ -21,11 +21,11 @@ impl Rule for ModelField {
     ghost tag_of = { model_tag };
 
     fn kind(&self, tag: u8) -> Option<ModelField> {
-        // A cast is the one form that reads a discriminant.
-        (tag == *self as u8).then_some(*self)
+        (tag == ModelField::tag(*self)).then_some(*self)
     }
 
     fn tag(kind: ModelField) -> u8 {
+        // A cast is the one form that reads a discriminant.
         kind as u8
     }
 
